@@ -1,0 +1,2 @@
+-- Laws about the definitions of ../specs.
+pub mod Starred
