@@ -69,6 +69,12 @@ abbrev pub choice-sign : Way → Symbol
 choice-sign into = sign "&"
 choice-sign out = sign "+"
 
+-- "parted by commas": what is behind an item, with a comma before it where that is an item too
+abbrev pub parted : Items → List Symbol → List Symbol
+parted no-items k = k
+parted (sort s xs) k = sign "," ∷ k
+parted (session x xs) k = sign "," ∷ k
+
 abbrev mutual
   pub write-type : Ty → List Symbol → List Symbol
   write-type ended k = end-word ∷ k
@@ -79,14 +85,8 @@ abbrev mutual
   -- the items of a list, and what closes it
   pub write-items : Way → Items → List Symbol → List Symbol
   write-items d no-items k = closing d ∷ k
-  write-items d (sort s xs) k = sort-word s ∷ write-rest d xs k
-  write-items d (session x xs) k = write-type x (write-rest d xs k)
-
-  -- "parted by commas": the items behind the first
-  pub write-rest : Way → Items → List Symbol → List Symbol
-  write-rest d no-items k = closing d ∷ k
-  write-rest d (sort s xs) k = sign "," ∷ sort-word s ∷ write-rest d xs k
-  write-rest d (session x xs) k = sign "," ∷ write-type x (write-rest d xs k)
+  write-items d (sort s xs) k = sort-word s ∷ parted xs (write-items d xs k)
+  write-items d (session x xs) k = write-type x (parted xs (write-items d xs k))
 
   pub write-labels : Labels → List Symbol → List Symbol
   write-labels (last-label w x) k = word w ∷ sign ":" ∷ write-type x (sign "}" ∷ k)
