@@ -1,7 +1,7 @@
 -- Laws about the definitions of ../specs. The rows and the worked examples come first.
 pub mod Computes
 pub mod Starred
-pub mod Worked
+pub mod Examples
 pub mod Order
 pub mod Places
 pub mod Runs

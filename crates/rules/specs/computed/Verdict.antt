@@ -26,6 +26,10 @@ pub record Entry : Type 0 where
 abbrev pub no-entry : Entry
 no-entry = record { pair = record { turn = 0; new = 0; old = 0 }; run = [] }
 
+-- the entry of the pair q that step s of e leads to
+abbrev pub entry-behind : Entry → ℕ → Pair → Entry
+entry-behind e s q = record { pair = q; run = e .run ++ (s ∷ []) }
+
 -- what a search comes to: every reached pair, or the first that is a mismatch
 pub data Outcome : Type 0 where
   all-fit : List Entry → Outcome
@@ -53,7 +57,7 @@ module _ (new : Table) (new-names : List ℕ) (old : Table) (old-names : List �
   visit e s es =
       elim (step-at new new-names old old-names (e .pair) s) [
         | none ↦ es
-        | some q ↦ elim (reached es q) [ true ↦ es | false ↦ es ++ (record { pair = q; run = e .run ++ (s ∷ []) } ∷ []) ]
+        | some q ↦ elim (reached es q) [ true ↦ es | false ↦ es ++ (entry-behind e s q ∷ []) ]
       ]
 
   -- n steps of e, from step s on
