@@ -1,7 +1,7 @@
 -- Document 01, "What the promises decide": five hollow programs, and that the promise of a verdict allows none of their replies, each on a
 -- named example and with the demand that shuts it out.
 -- Assumes nothing.
-use mathlib.Core.Bool.{Bool, true, false, _&&_, and-eq-true-iff, false≢true}
+use mathlib.Core.Bool.{Bool, true, false, false≢true}
 use mathlib.Core.List.{List, [], _∷_, _++_}
 use mathlib.Core.Logic.{_⊎_, inl, inr}
 use mathlib.Core.Option.{none, some}
@@ -9,12 +9,11 @@ use mathlib.Core.Path.{_≡_, refl, sym, ap, ap₂, _∙_}
 use Prim.Native.Nat.{ℕ, zero, suc, _<_, _≤_}
 use Prim.Native.String.{String}
 use native.Mathlib.Omega.{arith}
-use lib.Dec.{eqb}
 use lib.ListN.{length, getD, take, drop, replicate}
-use borrow.Author.Tests.{eqb-true}
 use Rattle.rules.proofs.Computes.{computes}
 use Rattle.rules.proofs.OneLine.{yes-means, no-means, steps-run}
-use Rattle.rules.proofs.Runs.{closed-no-mismatch}
+use Rattle.rules.proofs.Pairs.{same-pair-true}
+use Rattle.rules.proofs.Smallest.{closed-no-mismatch}
 use Rattle.rules.proofs.Starred.{R, N, P, Q}
 use Rattle.rules.specs.Basics.{bytes}
 use Rattle.rules.specs.Pairs.{Pair, Step, IsMismatch, starts}
@@ -66,7 +65,7 @@ offered-wrong e = let z : _≡_ {A = ℕ} 0 1 = cc in omega arith
 
 pub yes-throughout : (c : ℕ) (before after : Areas) → Allowed Q P before after (the.Yes c) → ⊥
 yes-throughout c before after r =
-    closed-no-mismatch (table Q) (bytes Q) (table P) (bytes P) _ (yes-means r .1 .smallest .closed) (0 ∷ []) offered into-offered offered-wrong
+    offered-wrong (closed-no-mismatch (yes-means r .1 .smallest .closed) (0 ∷ []) offered into-offered)
 
 -- One that writes no marks or path: demands 2 and 3. After a yes the starts are marked; after N's no against R the path cannot stand as
 -- it was found, since from the starts there is no step 7.
@@ -117,23 +116,13 @@ E = "A = end ."
 only-starts : Pair → Bool
 only-starts p = same-pair p (starts (table E) (bytes E) (table E) (bytes E))
 
-is-starts : (p : Pair) → only-starts p ≡ true → p ≡ starts (table E) (bytes E) (table E) (bytes E)
-unfolding only-starts computes
-is-starts p e =
-    let a = and-eq-true-iff (eqb (p .turn) 0 && eqb (p .new) 0) (eqb (p .old) 0) .0 e in
-    let b = and-eq-true-iff (eqb (p .turn) 0) (eqb (p .new) 0) .0 (a .0) in
-    let t = eqb-true (p .turn) 0 (b .0) in
-    let n = eqb-true (p .new) 0 (b .1) in
-    let o = eqb-true (p .old) 0 (a .1) in
-    λ i. record { turn = t i; new = n i; old = o i }
-
 only-starts-closed : Closed (table E) (bytes E) (table E) (bytes E) only-starts
 unfolding computes only-starts
 only-starts-closed =
     record {
       holds-starts = refl;
-      no-mismatch = λ p e. rw (is-starts p e);
-      all-steps = λ p q s e S. absurd (none-some (rw (is-starts p e) at (S .leads)));
+      no-mismatch = λ p e. rw (same-pair-true p _ e);
+      all-steps = λ p q s e S. absurd (none-some (rw (same-pair-true p _ e) at (S .leads)));
     }
 
 -- the first two of a list that is at least that long

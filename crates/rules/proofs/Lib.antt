@@ -1,10 +1,16 @@
--- Laws about the definitions of ../specs. The rows and the worked examples come first.
+-- Laws about the definitions of ../specs.
 pub mod Computes
 pub mod Starred
 pub mod Examples
-pub mod Order
-pub mod Places
+pub mod Basics
+pub mod Formed
+pub mod Pairs
+pub mod Steps
 pub mod Runs
+pub mod Places
+pub mod Order
+pub mod Growing
+pub mod Smallest
 pub mod OneTree
 pub mod OneReading
 pub mod OneVerdict

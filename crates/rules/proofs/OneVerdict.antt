@@ -12,12 +12,12 @@ use lib.ListN.{length, getD, take, take-append-drop}
 use lib.Seq.{ext-getD, getD-take, length-take-le}
 use borrow.Author.Tests.{lt-ltb, le-ltb}
 use Rattle.rules.proofs.Order.{before-total}
-use Rattle.rules.proofs.Places.{pair-at}
-use Rattle.rules.proofs.Runs.{leads-one, closed-no-mismatch}
+use Rattle.rules.proofs.Places.{pair-at, pair-at-within, place-pair-at}
+use Rattle.rules.proofs.Runs.{leads-one}
+use Rattle.rules.proofs.Smallest.{smallest-unique, closed-no-mismatch}
 use Rattle.rules.specs.Formed.{well-formed}
 use Rattle.rules.specs.Pairs.{Pair, starts}
 use Rattle.rules.specs.Refusals.{not-well-formed, area-too-short}
-use Rattle.rules.specs.Replace.{Smallest}
 use Rattle.rules.specs.Runs.{Before}
 use Rattle.rules.specs.Replies.{Areas, NoRefusal, SaysYes, SaysNo, Replaces, new-not-formed, old-not-formed, marks-short, path-short, scratch-short, says-yes, says-no, pair-count, scratch-size, mark, count-marks}
 use Rattle.table.specs.declared.Table.{Table}
@@ -26,16 +26,6 @@ use Rattle.table.specs.declared.answers.Verdict.{Verdict}
 use Rattle.table.specs.declared.answers.Verdict.the-variants as the
 
 module _ (new : Table) (new-names : List ℕ) (old : Table) (old-names : List ℕ) where
-  both-ways : (a b : Bool) → (a ≡ true → b ≡ true) → (b ≡ true → a ≡ true) → a ≡ b
-  both-ways true b f g = sym (f refl)
-  both-ways false true f g = g refl
-  both-ways false false f g = refl
-
-  pub smallest-unique :
-      (set other : Pair → Bool) → Smallest new new-names old old-names set → Smallest new new-names old old-names other
-      → (p : Pair) → set p ≡ other p
-  smallest-unique set other S T p = both-ways (set p) (other p) (S .inside other (T .closed) p) (T .inside set (S .closed) p)
-
   module _ {before after before′ after′ : Areas} where
     pub one-count :
         {c c′ : ℕ} → NoRefusal new new-names old old-names before after → SaysYes new new-names old old-names before after c
@@ -57,12 +47,12 @@ module _ (new : Table) (new-names : List ℕ) (old : Table) (old-names : List �
 
         same-mark : (i : ℕ) → i < N → getD (after .marks) i 0 ≡ getD (after′ .marks) i 0
         same-mark i l =
-            let P = pair-at new old i l in
-            let w = P .within in
-            rw (← P .place)
-            (Y .marked (P .pair) (w .turn-exists) (w .new-exists) (w .old-exists)
-            ∙ ap mark (smallest-unique (Y .set) (Y′ .set) (Y .smallest) (Y′ .smallest) (P .pair))
-            ∙ sym (Y′ .marked (P .pair) (w .turn-exists) (w .new-exists) (w .old-exists)))
+            let p = pair-at new old i in
+            let w = pair-at-within new old i l in
+            rw (← place-pair-at new old i l)
+            (Y .marked p (w .turn-below) (w .new-below) (w .old-below)
+            ∙ ap mark (smallest-unique (Y .smallest) (Y′ .smallest) p)
+            ∙ sym (Y′ .marked p (w .turn-below) (w .new-below) (w .old-below)))
 
     pub one-run :
         {f f′ : Found} (X : SaysNo new new-names old old-names before after f) (X′ : SaysNo new new-names old old-names before′ after′ f′)
@@ -82,7 +72,7 @@ module _ (new : Table) (new-names : List ℕ) (old : Table) (old-names : List �
 
     pub not-both :
         {c : ℕ} {f : Found} → SaysYes new new-names old old-names before after c → SaysNo new new-names old old-names before′ after′ f → ⊥
-    not-both Y X = closed-no-mismatch new new-names old old-names (Y .set) (Y .smallest .closed) (X .run) (X .end) (X .runs) (X .wrong)
+    not-both Y X = X .wrong (closed-no-mismatch (Y .smallest .closed) (X .run) (X .end) (X .runs))
 
 -- the first refusal that applies, by its position in the order; 5 where none does
 abbrev first-of : Bool → Bool → Bool → Bool → Bool → ℕ

@@ -1,40 +1,32 @@
--- A run ends at one pair, and a closed set holds every pair that a run reaches.
+-- Laws of runs: one end for a run, one step more at its end, and where the runs of two well formed tables stay. By the list of steps.
 -- Assumes nothing.
-use mathlib.Core.Bool.{Bool, true}
-use mathlib.Core.List.{List, [], _∷_}
-use mathlib.Core.Option.{some}
-use mathlib.Core.Path.{_≡_, refl, sym, _∙_}
+use mathlib.Core.List.{List, [], _∷_, _++_}
+use mathlib.Core.Path.{_≡_, refl, sym, subst, _∙_}
 use Prim.Native.Nat.{ℕ}
-use Rattle.rules.specs.Pairs.{Pair, Step, IsMismatch, starts}
-use Rattle.rules.specs.Runs.{Leads, Run}
-use Rattle.rules.specs.Replace.{Closed}
+use native.Mathlib.Omega.{arith}
+use Rattle.rules.proofs.Formed.{WellFormed}
+use Rattle.rules.proofs.Steps.{Within, step-one, step-within}
+use Rattle.rules.specs.Pairs.{Pair, Step, starts}
+use Rattle.rules.specs.Runs.{Leads}
 use Rattle.table.specs.declared.Table.{Table}
 
 module _ (new : Table) (new-names : List ℕ) (old : Table) (old-names : List ℕ) where
-  pub step-one : {p q r : Pair} {s : ℕ} → Step new new-names old old-names p s q → Step new new-names old old-names p s r → q ≡ r
-  step-one {p} {q} {r} {s} S T = some-one (sym (S .leads) ∙ T .leads)
-    where
-      some-one : some q ≡ some r → q ≡ r
-      some-one e = cc
-
   pub leads-one :
       (t : List ℕ) (p q r : Pair) → Leads new new-names old old-names p t q → Leads new new-names old old-names p t r → q ≡ r
   leads-one [] p q r u v = sym u ∙ v
   leads-one (s ∷ t) p q r u v = leads-one t (u .0) q r (u .2) (rw (step-one (v .1) (u .1)) at (v .2))
 
-  closed-leads :
-      (set : Pair → Bool) → Closed new new-names old old-names set → (r : List ℕ) (p q : Pair) → set p ≡ true
-      → Leads new new-names old old-names p r q → set q ≡ true
-  closed-leads set C [] p q e u = rw u at e
-  closed-leads set C (s ∷ r) p q e u = closed-leads set C r (u .0) q (C .all-steps p (u .0) s e (u .1)) (u .2)
+module _ {new : Table} {new-names : List ℕ} {old : Table} {old-names : List ℕ} where
+  pub leads-snoc :
+      (r : List ℕ) (p : Pair) {q : Pair} {s : ℕ} {m : Pair} → Leads new new-names old old-names p r q
+      → Step new new-names old old-names q s m → Leads new new-names old old-names p (r ++ (s ∷ [])) m
+  leads-snoc [] p {m = m} L S = (m, rw L S, refl)
+  leads-snoc (a ∷ r) p L S = (L .0, L .1, leads-snoc r (L .0) (L .2) S)
 
-  pub closed-reached :
-      (set : Pair → Bool) → Closed new new-names old old-names set → (r : List ℕ) (q : Pair) → Run new new-names old old-names r q
-      → set q ≡ true
-  closed-reached set C r q u = closed-leads set C r (starts new new-names old old-names) q (C .holds-starts) u
+  module _ (new-formed : WellFormed new new-names) (old-formed : WellFormed old old-names) where
+    pub starts-within : Within new old (starts new new-names old old-names)
+    starts-within = record { turn-below = omega arith; new-below = new-formed .begins; old-below = old-formed .begins }
 
-  -- demand 3, after a yes: no run reaches a mismatch
-  pub closed-no-mismatch :
-      (set : Pair → Bool) → Closed new new-names old old-names set → (r : List ℕ) (q : Pair) → Run new new-names old old-names r q
-      → IsMismatch new new-names old old-names q → ⊥
-  closed-no-mismatch set C r q u w = w (C .no-mismatch q (closed-reached set C r q u))
+    pub leads-within : (r : List ℕ) (p q : Pair) → Within new old p → Leads new new-names old old-names p r q → Within new old q
+    leads-within [] p q w L = subst (Within new old) L w
+    leads-within (s ∷ r) p q w L = leads-within r (L .0) q (step-within new-formed old-formed w (L .1)) (L .2)

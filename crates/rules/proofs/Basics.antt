@@ -1,0 +1,111 @@
+-- Laws of the words of ../specs/Basics: each test tells the fact that it tests, and the fact gives the test back.
+-- `Found` says what `first` finds of every position, so that no proof opens `first` again.
+-- Assumes nothing.
+use mathlib.Core.Bool.{Bool, true, false, false≢true}
+use mathlib.Core.List.{List, [], _∷_}
+use mathlib.Core.Path.{_≡_, refl, sym, ap, ap₂, _∙_}
+use mathlib.Mathlib.Data.Bool.Basic.{bool-eq-false}
+use Prim.Native.Nat.{ℕ, zero, suc, _<_, _≤_}
+use native.Mathlib.Decide.{decLt}
+use native.Mathlib.Omega.{arith}
+use lib.Dec.{eqb}
+use lib.ListN.{length, getD}
+use borrow.Author.Count.{below-more}
+use borrow.Author.Tests.{eqb-true, eq-eqb, ltb-true, lt-ltb}
+use Rattle.rules.specs.Basics.{same, every, first, some-below, listed}
+
+-- two tests that pass together are the same
+pub tests-same : (a b : Bool) → (a ≡ true → b ≡ true) → (b ≡ true → a ≡ true) → a ≡ b
+tests-same true b f g = sym (f refl)
+tests-same false true f g = g refl
+tests-same false false f g = refl
+
+-- both tests pass, as `same` and `every` ask it
+both : (b c : Bool) → elim b as (λ x. Bool) [ true ↦ c | false ↦ false ] ≡ true → (b ≡ true) × (c ≡ true)
+both true c e = (refl, e)
+both false c e = absurd (false≢true e)
+
+pub every-true : (n : ℕ) (p : ℕ → Bool) → every n p ≡ true → (i : ℕ) → i < n → p i ≡ true
+unfolding every
+every-true zero p e i l = absurd (omega arith)
+every-true (suc n) p e i l =
+    let h = both (p n) (every n p) e in below-more (λ i. p i ≡ true) n (every-true n p (h .1)) (h .0) i (omega arith)
+
+pub every-all : (n : ℕ) (p : ℕ → Bool) → ((i : ℕ) → i < n → p i ≡ true) → every n p ≡ true
+unfolding every
+every-all zero p f = refl
+every-all (suc n) p f = rw (every, f n (omega arith)) (every-all n p (λ i l. f i (omega arith)))
+
+-- what `first` finds: the one position with nothing before it, and the end where there is none
+pub record Found (p : ℕ → Bool) (n i : ℕ) : Type 0 where
+  pub within : i ≤ n
+  pub before : (j : ℕ) → j < i → p j ≡ false
+  pub here : i < n → p i ≡ true
+
+-- one position more, at the front
+found-on : (p : ℕ → Bool) (n i : ℕ) → p zero ≡ false → Found (λ j. p (suc j)) n i → Found p (suc n) (suc i)
+found-on p n i e F = record { within = omega arith; before = below; here = λ l. F .here (omega arith) }
+  where
+    below : (j : ℕ) → j < suc i → p j ≡ false
+    below zero l = e
+    below (suc j) l = F .before j (omega arith)
+
+pub first-found : (p : ℕ → Bool) (n : ℕ) → Found p n (first p n)
+unfolding first
+first-found p zero = record { within = omega arith; before = λ j l. absurd (omega arith); here = λ l. absurd (omega arith) }
+first-found p (suc n) = go (p zero) refl (first-found (λ j. p (suc j)) n)
+  where
+    go :
+        (b : Bool) → p zero ≡ b → Found (λ j. p (suc j)) n (first (λ j. p (suc j)) n)
+        → Found p (suc n) (elim b as (λ b. ℕ) [ true ↦ zero | false ↦ suc (first (λ i. p (suc i)) n) ])
+    go true e F = record { within = omega arith; before = λ j l. absurd (omega arith); here = λ l. e }
+    go false e F = found-on p n (first (λ i. p (suc i)) n) e F
+
+pub found-first : (p : ℕ → Bool) (n i : ℕ) → Found p n i → first p n ≡ i
+unfolding first
+found-first p zero zero F = refl
+found-first p zero (suc i) F = absurd (omega arith)
+found-first p (suc n) zero F = rw (first, F .here (omega arith))
+found-first p (suc n) (suc i) F =
+    rw (first, F .before zero (omega arith))
+    (ap suc
+    (found-first (λ j. p (suc j)) n i
+    (record { within = omega arith; before = λ j l. F .before (suc j) (omega arith); here = λ l. F .here (omega arith) })))
+
+-- a test that passes somewhere, by its position
+pub some-below-true : (n : ℕ) (p : ℕ → Bool) → some-below n p ≡ true → (i : ℕ) × (i < n) × (p i ≡ true)
+some-below-true n p e = let l = ltb-true (first p n) n e in (first p n, l, first-found p n .here l)
+
+pub some-below-at : (n : ℕ) (p : ℕ → Bool) (i : ℕ) → i < n → p i ≡ true → some-below n p ≡ true
+some-below-at n p i l e = lt-ltb (first p n) n (go (decLt i (first p n)))
+  where
+    go : Dec (i < first p n) → first p n < n
+    go (yes b) = absurd (false≢true (sym (first-found p n .before i b) ∙ e))
+    go (no h) = omega arith
+
+pub same-true : (a b : List ℕ) → same a b ≡ true → a ≡ b
+unfolding same
+same-true [] [] e = refl
+same-true [] (y ∷ b) e = absurd (false≢true e)
+same-true (x ∷ a) [] e = absurd (false≢true e)
+same-true (x ∷ a) (y ∷ b) e =
+    let h = both (eqb x y) (same a b) e in ap₂ {C = List ℕ} _∷_ (eqb-true x y (h .0)) (same-true a b (h .1))
+
+pub same-refl : (a : List ℕ) → same a a ≡ true
+unfolding same
+same-refl [] = refl
+same-refl (x ∷ a) = rw (same, eq-eqb x x refl) (same-refl a)
+
+pub same-false : (a b : List ℕ) → (a ≡ b → ⊥) → same a b ≡ false
+same-false a b h = bool-eq-false (λ e. h (same-true a b e))
+
+pub listed-length : {A : Type 0} (n : ℕ) (f : ℕ → A) → length (listed n f) ≡ n
+unfolding listed
+listed-length zero f = refl
+listed-length (suc n) f = ap suc (listed-length n (λ i. f (suc i)))
+
+pub listed-at : {A : Type 0} (n : ℕ) (f : ℕ → A) (i : ℕ) (d : A) → i < n → getD (listed n f) i d ≡ f i
+unfolding listed
+listed-at zero f i d l = absurd (omega arith)
+listed-at (suc n) f zero d l = refl
+listed-at (suc n) f (suc i) d l = listed-at n (λ j. f (suc j)) i d (omega arith)

@@ -1,0 +1,185 @@
+-- Laws of the steps of two well formed tables: a number leads to one pair at most, inside the tables, and is below the
+-- most that a choice has labels.
+-- Where a step leads is looked at node by node: its links are within the tables because no mismatch stands in the way.
+-- Assumes nothing.
+use mathlib.Core.Bool.{Bool, true, false}
+use mathlib.Core.List.{List}
+use mathlib.Core.Option.{some, Option·some-injective}
+use mathlib.Core.Path.{_≡_, refl, ap, subst}
+use Prim.Native.Nat.{ℕ, zero, suc, _<_, _≤_}
+use native.Mathlib.Omega.{arith}
+use lib.Dec.{eqb, ltb}
+use borrow.Author.Tests.{eqb-true, leb-true, leb-false, ltb-true}
+use Rattle.rules.specs.Basics.{first}
+use Rattle.rules.specs.Numbers.{labels-most}
+use Rattle.rules.specs.Tables.{node-at, item-count, item-at, label-count, label-at, spelling-at, continuation}
+use Rattle.rules.specs.Pairs.{Pair, Onward, Step, reason, or-else, unless, kinds-differ, counts-differ, item-differs, position, missing, label-missing, labels-by, mismatch-of, mismatch-in, mismatch-at, onto, nowhere, continuation-step, into-item, message-step, branch-step, choose-step, step-by, step-of, step-in, step-at, landed, turn-after}
+use Rattle.rules.proofs.Basics.{first-found}
+use Rattle.rules.proofs.Formed.{FormedMessage, FormedChoice, FormedNode, WellFormed}
+use Rattle.table.specs.declared.Kind.{Kind}
+use Rattle.table.specs.declared.Kind.the-variants.{End, Receive, Send, Branch, Choose}
+use Rattle.table.specs.declared.Item.{Item}
+use Rattle.table.specs.declared.Item.the-variants.{OfSort, Session}
+use Rattle.table.specs.declared.Node.{Node}
+use Rattle.table.specs.declared.Table.{Table}
+use Rattle.table.specs.declared.answers.Mismatch.{Mismatch}
+use Rattle.table.specs.declared.answers.Mismatch.the-variants as mismatch
+
+-- where nothing is wrong, no reason applies
+or-else-nothing : (a b : Mismatch) → or-else a b ≡ mismatch.Nothing → (a ≡ mismatch.Nothing) × (b ≡ mismatch.Nothing)
+or-else-nothing mismatch.Nothing b e = (refl, e)
+or-else-nothing mismatch.Kinds b e = absurd (omega (arith, ap reason e))
+or-else-nothing mismatch.Counts b e = absurd (omega (arith, ap reason e))
+or-else-nothing (mismatch.Item i) b e = absurd (omega (arith, ap reason e))
+or-else-nothing (mismatch.Label i) b e = absurd (omega (arith, ap reason e))
+
+unless-nothing : (b : Bool) (m : Mismatch) → 0 < reason m → unless b m ≡ mismatch.Nothing → b ≡ true
+unless-nothing true m l e = refl
+unless-nothing false m l e = absurd (omega (arith, ap reason e))
+
+no-label-missing :
+    (x : Node) (xs : List ℕ) (y : Node) (ys : List ℕ) → label-missing x xs y ys ≡ mismatch.Nothing → (i : ℕ) → i < label-count x
+    → position (spelling-at x xs i) y ys < label-count y
+unfolding label-missing missing
+no-label-missing x xs y ys e i l =
+    let none-before : label-count x ≤ first (missing x xs y ys) (label-count x) = leb-true _ _ (unless-nothing _ (mismatch.Label _) (omega arith) e) in
+    leb-false _ _ (first-found (missing x xs y ys) (label-count x) .before i (omega arith))
+
+-- what of this a step stands on
+no-mismatch :
+    (x : Node) (xs : List ℕ) (y : Node) (ys : List ℕ) → mismatch-of x xs y ys ≡ mismatch.Nothing
+    → (item-count x ≡ item-count y) × (labels-by (x .kind) x xs y ys ≡ mismatch.Nothing)
+unfolding mismatch-of counts-differ
+no-mismatch x xs y ys e =
+    let labels = labels-by (x .kind) x xs y ys in
+    let a = or-else-nothing (kinds-differ x y) (or-else (counts-differ x y) (or-else (item-differs x y) labels)) e in
+    let b = or-else-nothing (counts-differ x y) (or-else (item-differs x y) labels) (a .1) in
+    let c = or-else-nothing (item-differs x y) labels (b .1) in
+    (eqb-true _ _ (unless-nothing _ mismatch.Counts (omega arith) (b .0)), c .1)
+
+-- step s leads within n and m nodes, and is low enough
+abbrev Lands : ℕ → ℕ → ℕ → Onward → Type 0
+Lands n m s nowhere = Unit {0}
+Lands n m s (onto l r t) = (l < n) × (r < m) × (s < labels-most)
+
+module _ {n m : ℕ} {x : Node} {y : Node} (s : ℕ) (t : Bool) (fx : FormedMessage n x) (fy : FormedMessage m y) where
+  item-lands : s < item-count x → s < item-count y → (a b : Item) → item-at x s ≡ a → item-at y s ≡ b → Lands n m s (into-item a b t)
+  item-lands k l (OfSort a) (OfSort b) d e = tt
+  item-lands k l (OfSort a) (Session j) d e = tt
+  item-lands k l (Session i) (OfSort b) d e = tt
+  item-lands k l (Session i) (Session j) d e = (fx .item-links s i k d, fy .item-links s j l e, omega arith)
+
+  message-lands : item-count x ≡ item-count y → Lands n m s (message-step x y t s)
+  unfolding message-step
+  message-lands c = go (ltb s (item-count x)) refl (eqb s continuation-step) refl
+    where
+      go :
+          (a : Bool) → ltb s (item-count x) ≡ a → (b : Bool) → eqb s continuation-step ≡ b
+          → Lands n m s (elim a as (λ z. Onward) [
+            | true ↦ into-item (item-at x s) (item-at y s) t
+            | false ↦ elim b as (λ z. Onward) [ true ↦ onto (continuation x) (continuation y) false | false ↦ nowhere ]
+          ])
+      go true d b e = let k = ltb-true _ _ d in item-lands k (omega arith) (item-at x s) (item-at y s) refl refl
+      go false d true e = (fx .goes-on, fy .goes-on, omega (arith, eqb-true s 4 e))
+      go false d false e = tt
+
+module _ {n m : ℕ} {x : Node} {xs : List ℕ} {y : Node} {ys : List ℕ} (s : ℕ) (fx : FormedChoice n xs x) (fy : FormedChoice m ys y) where
+  branch-lands : label-missing x xs y ys ≡ mismatch.Nothing → Lands n m s (branch-step x xs y ys s)
+  unfolding branch-step
+  branch-lands e = go (ltb s (label-count x)) refl
+    where
+      go :
+          (a : Bool) → ltb s (label-count x) ≡ a
+          → Lands n m s (elim a as (λ z. Onward) [
+            | true ↦ onto (label-at x s .to) (label-at y (position (spelling-at x xs s) y ys) .to) false
+            | false ↦ nowhere
+          ])
+      go true d =
+          let k = ltb-true _ _ d in
+          (fx .label-links s k, fy .label-links _ (no-label-missing x xs y ys e s k), omega (arith, fx .few-labels))
+      go false d = tt
+
+  choose-lands : label-missing y ys x xs ≡ mismatch.Nothing → Lands n m s (choose-step x xs y ys s)
+  unfolding choose-step
+  choose-lands e = go (ltb s (label-count y)) refl
+    where
+      go :
+          (a : Bool) → ltb s (label-count y) ≡ a
+          → Lands n m s (elim a as (λ z. Onward) [
+            | true ↦ onto (label-at x (position (spelling-at y ys s) x xs) .to) (label-at y s .to) false
+            | false ↦ nowhere
+          ])
+      go true d =
+          let k = ltb-true _ _ d in
+          (fx .label-links _ (no-label-missing y ys x xs e s k), fy .label-links s k, omega (arith, fy .few-labels))
+      go false d = tt
+
+node-lands :
+    {n m : ℕ} {x : Node} {xs : List ℕ} {y : Node} {ys : List ℕ} (s : ℕ) → FormedNode n xs x → FormedNode m ys y
+    → mismatch-of x xs y ys ≡ mismatch.Nothing → Lands n m s (step-of x xs y ys s)
+unfolding step-of
+node-lands {n} {m} {x} {xs} {y} {ys} s fx fy e = let f = no-mismatch x xs y ys e in go (f .0) (x .kind) (f .1)
+  where
+    go : item-count x ≡ item-count y → (k : Kind) → labels-by k x xs y ys ≡ mismatch.Nothing → Lands n m s (step-by k x xs y ys s)
+    go c End e = tt
+    go c Receive e = message-lands s false (fx .message) (fy .message) c
+    go c Send e = message-lands s true (fx .message) (fy .message) c
+    go c Branch e = branch-lands s (fx .choice) (fy .choice) e
+    go c Choose e = choose-lands s (fx .choice) (fy .choice) e
+
+-- a pair of the tables' nodes
+pub record Within (new old : Table) (p : Pair) : Type 0 where
+  pub turn-below : p .turn < 2
+  pub new-below : p .new < new .count
+  pub old-below : p .old < old .count
+
+turn-after-below : (t : Bool) (u : ℕ) → u < 2 → turn-after t u < 2
+turn-after-below true zero l = omega arith
+turn-after-below true (suc u) l = omega arith
+turn-after-below false u l = l
+
+-- a step leads to one pair
+pub step-one :
+    {new : Table} {new-names : List ℕ} {old : Table} {old-names : List ℕ} {p : Pair} {s : ℕ} {q r : Pair}
+    → Step new new-names old old-names p s q → Step new new-names old old-names p s r → q ≡ r
+step-one S R = let d = S .leads in let e = R .leads in cc
+
+module _ {new : Table} {new-names : List ℕ} {old : Table} {old-names : List ℕ} (new-formed : WellFormed new new-names) (old-formed : WellFormed old old-names) where
+  step-lands : (p : Pair) (s : ℕ) (q : Pair) → Within new old p → Step new new-names old old-names p s q → Within new old q × (s < labels-most)
+  unfolding mismatch-at step-at
+  step-lands p s q w S = go (p .turn) (w .turn-below) (S .fits) (S .leads)
+    where
+      x : FormedNode (new .count) new-names (node-at new (p .new))
+      x = new-formed .each (p .new) (w .new-below)
+
+      y : FormedNode (old .count) old-names (node-at old (p .old))
+      y = old-formed .each (p .old) (w .old-below)
+
+      straight : (o : Onward) → Lands (new .count) (old .count) s o → landed zero o ≡ some q → Within new old q × (s < labels-most)
+      straight nowhere h e = let z : _≡_ {A = ℕ} 0 1 = cc in absurd (omega arith)
+      straight (onto l r t) h e = (
+        subst (Within new old) (Option·some-injective _ q e)
+            (record { turn-below = turn-after-below t zero (omega arith); new-below = h .0; old-below = h .1 }),
+        h .2,
+      )
+
+      turned : (u : ℕ) → suc u < 2 → (o : Onward) → Lands (old .count) (new .count) s o → landed (suc u) o ≡ some q → Within new old q × (s < labels-most)
+      turned u k nowhere h e = let z : _≡_ {A = ℕ} 0 1 = cc in absurd (omega arith)
+      turned u k (onto l r t) h e = (
+        subst (Within new old) (Option·some-injective _ q e)
+            (record { turn-below = turn-after-below t (suc u) k; new-below = h .1; old-below = h .0 }),
+        h .2,
+      )
+
+      go :
+          (u : ℕ) → u < 2 → mismatch-in u (node-at new (p .new)) new-names (node-at old (p .old)) old-names ≡ mismatch.Nothing
+          → landed u (step-in u (node-at new (p .new)) new-names (node-at old (p .old)) old-names s) ≡ some q
+          → Within new old q × (s < labels-most)
+      go zero k f e = straight (step-of (node-at new (p .new)) new-names (node-at old (p .old)) old-names s) (node-lands s x y f) e
+      go (suc u) k f e = turned u k (step-of (node-at old (p .old)) old-names (node-at new (p .new)) new-names s) (node-lands s y x f) e
+
+  pub step-within : {p : Pair} {s : ℕ} {q : Pair} → Within new old p → Step new new-names old old-names p s q → Within new old q
+  step-within {p} {s} {q} w S = step-lands p s q w S .0
+
+  pub step-numbered : {p : Pair} {s : ℕ} {q : Pair} → Within new old p → Step new new-names old old-names p s q → s < labels-most
+  step-numbered {p} {s} {q} w S = step-lands p s q w S .1
