@@ -1,20 +1,21 @@
--- Worked examples of the definitions, beside the starred rows: the session that hands itself over.
+-- Worked examples of the definitions, beside the starred rows: the session that hands itself over, and the missing label.
 -- Assumes nothing.
 use mathlib.Core.List.{List, [], _∷_, _++_}
 use mathlib.Core.Path.{_≡_, refl}
 use Prim.Native.Nat.{ℕ}
 use Prim.Native.String.{String}
 use Rattle.rules.proofs.Computes.{computes}
-use Rattle.rules.proofs.Starred.{Holds, compared}
+use Rattle.rules.proofs.Starred.{Holds, compared, R, N, M, P, Q}
 use Rattle.rules.specs.Basics.{bytes, fill}
 use Rattle.rules.specs.Numbers.{items-most, table-most}
 use Rattle.rules.specs.Tables.{blank-slot, blank-labels, blank-node}
-use Rattle.rules.specs.Replies.{made, dual-reply}
+use Rattle.rules.specs.Replies.{made, dual-reply, missing-label}
 use Rattle.rules.specs.computed.Reading.{reading}
 use Rattle.table.specs.declared.Kind.{Kind}
 use Rattle.table.specs.declared.Kind.the-variants.{Receive, Send}
 use Rattle.table.specs.declared.Item.the-variants.{Session}
 use Rattle.table.specs.declared.Node.{Node}
+use Rattle.table.specs.declared.answers.Verdict.the-variants.{No}
 
 abbrev pub A : String
 A = "A = ![A]; end ."
@@ -47,3 +48,34 @@ own-dual = refl
 pub own-session : Holds (compared A A "yes 4\n")
 unfolding computes
 own-session = refl
+
+-- the missing label of two texts, for a mismatch of this reason, detail, new node, old node and turn
+abbrev pub missing-of : String → String → ℕ → ℕ → ℕ → ℕ → ℕ → List ℕ
+missing-of new old r d i j t =
+    missing-label (reading (bytes new) .table) (bytes new) (reading (bytes old) .table) (bytes old)
+    (No (record { reason = r; detail = d; new = i; old = j; turn = t; steps = 0 }))
+
+-- By kind and turn: `&` in turn 0 is listed by the new text, `+` in turn 0 by the old one, and in turn 1 by the new one.
+pub late-missing : missing-of N R 23 1 2 2 0 ≡ bytes "late"
+unfolding computes
+late-missing = refl
+
+pub reset-missing : missing-of R M 23 2 0 0 0 ≡ bytes "reset"
+unfolding computes
+reset-missing = refl
+
+pub b-missing : missing-of Q P 23 1 1 1 1 ≡ bytes "b"
+unfolding computes
+b-missing = refl
+
+-- An answer fits whether or not the label is missing; it does not for another reason, a turn that does not exist, a position past the
+-- chooser's list, nodes of two kinds, or a node that is no choice.
+pub sum-fits : missing-of R M 23 0 0 0 0 ≡ bytes "sum"
+unfolding computes
+sum-fits = refl
+
+pub none-fits :
+    (missing-of R M 22 2 0 0 0 ≡ []) × (missing-of R M 23 2 0 0 2 ≡ []) × (missing-of R M 23 3 0 0 0 ≡ [])
+    × (missing-of R M 23 0 0 2 0 ≡ []) × (missing-of R M 23 0 1 1 0 ≡ []) × (missing-of R M 23 0 9 0 0 ≡ [])
+unfolding computes
+none-fits = (refl, refl, refl, refl, refl, refl)

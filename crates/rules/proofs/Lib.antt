@@ -3,6 +3,7 @@ pub mod Computes
 pub mod Starred
 pub mod Examples
 pub mod Basics
+pub mod Tables
 pub mod Formed
 pub mod Pairs
 pub mod Steps
@@ -17,3 +18,4 @@ pub mod OneVerdict
 pub mod OneCompatible
 pub mod OneLine
 pub mod Hollow
+pub mod RuledOut

@@ -40,7 +40,7 @@ same-table a b = ap (λ (m : Made). m .table) (one-reading a b)
 not-refused : {s : List ℕ} {t : Table} {n p : ℕ} → Reads s (made t) → Reads s (refused n p) → ⊥
 not-refused a b = made-not-refused (one-reading a b)
 
-refused-one : {n p m q : ℕ} → refused n p ≡ refused m q → (n ≡ m) × (p ≡ q)
+pub refused-one : {n p m q : ℕ} → refused n p ≡ refused m q → (n ≡ m) × (p ≡ q)
 refused-one {n} {p} {m} {q} e = parts (ap (λ (r : Made). r .answer) e)
   where
     parts : Refused n p ≡ Refused m q → (n ≡ m) × (p ≡ q)
