@@ -37,50 +37,50 @@ every-all zero p f = refl
 every-all (suc n) p f = rw (every, f n (omega arith)) (every-all n p (λ i l. f i (omega arith)))
 
 -- what `first` finds: the one position with nothing before it, and the end where there is none
-pub record Found (p : ℕ → Bool) (n i : ℕ) : Type 0 where
+pub record Found (n : ℕ) (p : ℕ → Bool) (i : ℕ) : Type 0 where
   pub within : i ≤ n
   pub before : (j : ℕ) → j < i → p j ≡ false
   pub here : i < n → p i ≡ true
 
 -- one position more, at the front
-found-on : (p : ℕ → Bool) (n i : ℕ) → p zero ≡ false → Found (λ j. p (suc j)) n i → Found p (suc n) (suc i)
+found-on : (p : ℕ → Bool) (n i : ℕ) → p zero ≡ false → Found n (λ j. p (suc j)) i → Found (suc n) p (suc i)
 found-on p n i e F = record { within = omega arith; before = below; here = λ l. F .here (omega arith) }
   where
     below : (j : ℕ) → j < suc i → p j ≡ false
     below zero l = e
     below (suc j) l = F .before j (omega arith)
 
-pub first-found : (p : ℕ → Bool) (n : ℕ) → Found p n (first p n)
+pub first-found : (n : ℕ) (p : ℕ → Bool) → Found n p (first n p)
 unfolding first
-first-found p zero = record { within = omega arith; before = λ j l. absurd (omega arith); here = λ l. absurd (omega arith) }
-first-found p (suc n) = go (p zero) refl (first-found (λ j. p (suc j)) n)
+first-found zero p = record { within = omega arith; before = λ j l. absurd (omega arith); here = λ l. absurd (omega arith) }
+first-found (suc n) p = go (p zero) refl (first-found n (λ j. p (suc j)))
   where
     go :
-        (b : Bool) → p zero ≡ b → Found (λ j. p (suc j)) n (first (λ j. p (suc j)) n)
-        → Found p (suc n) (elim b as (λ b. ℕ) [ true ↦ zero | false ↦ suc (first (λ i. p (suc i)) n) ])
+        (b : Bool) → p zero ≡ b → Found n (λ j. p (suc j)) (first n (λ j. p (suc j)))
+        → Found (suc n) p (elim b as (λ b. ℕ) [ true ↦ zero | false ↦ suc (first n (λ i. p (suc i))) ])
     go true e F = record { within = omega arith; before = λ j l. absurd (omega arith); here = λ l. e }
-    go false e F = found-on p n (first (λ i. p (suc i)) n) e F
+    go false e F = found-on p n (first n (λ i. p (suc i))) e F
 
-pub found-first : (p : ℕ → Bool) (n i : ℕ) → Found p n i → first p n ≡ i
+pub found-first : (n : ℕ) (p : ℕ → Bool) (i : ℕ) → Found n p i → first n p ≡ i
 unfolding first
-found-first p zero zero F = refl
-found-first p zero (suc i) F = absurd (omega arith)
-found-first p (suc n) zero F = rw (first, F .here (omega arith))
-found-first p (suc n) (suc i) F =
+found-first zero p zero F = refl
+found-first zero p (suc i) F = absurd (omega arith)
+found-first (suc n) p zero F = rw (first, F .here (omega arith))
+found-first (suc n) p (suc i) F =
     rw (first, F .before zero (omega arith))
     (ap suc
-    (found-first (λ j. p (suc j)) n i
+    (found-first n (λ j. p (suc j)) i
     (record { within = omega arith; before = λ j l. F .before (suc j) (omega arith); here = λ l. F .here (omega arith) })))
 
 -- a test that passes somewhere, by its position
 pub some-below-true : (n : ℕ) (p : ℕ → Bool) → some-below n p ≡ true → (i : ℕ) × (i < n) × (p i ≡ true)
-some-below-true n p e = let l = ltb-true (first p n) n e in (first p n, l, first-found p n .here l)
+some-below-true n p e = let l = ltb-true (first n p) n e in (first n p, l, first-found n p .here l)
 
 pub some-below-at : (n : ℕ) (p : ℕ → Bool) (i : ℕ) → i < n → p i ≡ true → some-below n p ≡ true
-some-below-at n p i l e = lt-ltb (first p n) n (go (decLt i (first p n)))
+some-below-at n p i l e = lt-ltb (first n p) n (go (decLt i (first n p)))
   where
-    go : Dec (i < first p n) → first p n < n
-    go (yes b) = absurd (false≢true (sym (first-found p n .before i b) ∙ e))
+    go : Dec (i < first n p) → first n p < n
+    go (yes b) = absurd (false≢true (sym (first-found n p .before i b) ∙ e))
     go (no h) = omega arith
 
 pub same-true : (a b : List ℕ) → same a b ≡ true → a ≡ b

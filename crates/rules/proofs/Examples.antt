@@ -7,7 +7,7 @@ use Prim.Native.String.{String}
 use Rattle.rules.proofs.Computes.{computes}
 use Rattle.rules.proofs.Starred.{Holds, compared, R, N, M, P, Q}
 use Rattle.rules.specs.Basics.{bytes, fill}
-use Rattle.rules.specs.Numbers.{items-most, table-most}
+use Rattle.rules.specs.Numbers.{items-most, table-nodes-most}
 use Rattle.rules.specs.Tables.{blank-slot, blank-labels, blank-node}
 use Rattle.rules.specs.Replies.{made, dual-reply, missing-label}
 use Rattle.rules.specs.computed.Reading.{reading}
@@ -37,7 +37,7 @@ pub own-dual :
     dual-reply (reading (bytes A) .table) (bytes A)
     ≡ made
     (record {
-      nodes = fill table-most blank-node (handing-over Receive 2 1 ∷ blank-node ∷ handing-over Send 2 3 ∷ blank-node ∷ []);
+      nodes = fill table-nodes-most blank-node (handing-over Receive 2 1 ∷ blank-node ∷ handing-over Send 2 3 ∷ blank-node ∷ []);
       count = 4;
       start = 0;
     })

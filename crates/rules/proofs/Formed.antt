@@ -12,7 +12,7 @@ use lib.ListN.{length}
 use borrow.Author.Tests.{leb-true, le-leb, ltb-true, lt-ltb, not-true}
 use Rattle.rules.specs.Basics.{same, every}
 use Rattle.rules.specs.Words.{may-name}
-use Rattle.rules.specs.Numbers.{items-most, labels-most, table-most}
+use Rattle.rules.specs.Numbers.{items-most, labels-most, table-nodes-most}
 use Rattle.rules.specs.Tables.{node-at, item-at, item-count, label-at, label-count, continuation, spelling-at, is-message, is-choice}
 use Rattle.rules.specs.Formed.{item-formed, label-formed, label-new, message-formed, choice-formed, formed-by, node-formed, well-formed}
 use Rattle.rules.proofs.Basics.{every-true, every-all, same-refl, same-false}
@@ -44,7 +44,7 @@ pub record FormedNode (n : ℕ) (names : List ℕ) (x : Node) : Type 0 where
 
 pub record WellFormed (t : Table) (names : List ℕ) : Type 0 where
   pub some-node : 1 ≤ t .count
-  pub few-nodes : t .count ≤ table-most
+  pub few-nodes : t .count ≤ table-nodes-most
   pub begins : t .start < t .count
   pub each : (i : ℕ) → i < t .count → FormedNode (t .count) names (node-at t i)
 

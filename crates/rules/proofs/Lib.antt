@@ -17,5 +17,6 @@ pub mod OneReading
 pub mod OneVerdict
 pub mod OneCompatible
 pub mod OneLine
+pub mod Means
 pub mod Hollow
 pub mod RuledOut

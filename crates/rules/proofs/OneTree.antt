@@ -39,7 +39,7 @@ tells (word w ∷ k) = a-type a-name
 tells (reserved-word i ∷ k) = getD (a-type an-end ∷ a-sort String ∷ a-sort Float ∷ a-sort Boolean ∷ a-sort Void ∷ []) i neither
 tells (one-byte b ∷ k) =
     getD (a-type (a-message into) ∷ a-type (a-message out) ∷ a-type (a-choice into) ∷ a-type (a-choice out) ∷ [])
-    (first (λ i. eqb b (getD (bytes "?!&+") i 0)) 4) neither
+    (first 4 (λ i. eqb b (getD (bytes "?!&+") i 0))) neither
 
 type-tells : (x : Ty) (k : List Symbol) → tells (write-type x k) ≡ a-type (root x)
 unfolding first

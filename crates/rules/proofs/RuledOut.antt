@@ -23,7 +23,7 @@ use Rattle.rules.specs.Formed.{well-formed}
 use Rattle.rules.specs.Line.{Prints, first-refused, second-refused, yes, no, line, fields}
 use Rattle.rules.specs.Notation.{Ty, ended, name, Text, last-definition, definition, Writes, write-text}
 use Rattle.rules.specs.Numbering.{to-nothing, definition-leads}
-use Rattle.rules.specs.Refusals.{Fault, long-text, no-text-has, none-may-end, long-word, open-bracket, definition-more, node-more, label-more, item-more, same-label, same-name, undefined-name, round-name, GoesFirst, Could, Stands, OneOf, unexpected, never-defined, group, used-names}
+use Rattle.rules.specs.Refusals.{Fault, long-text, no-text-has, none-may-end, at-token, Seen, TokenFault, long-word, open-bracket, definition-more, node-more, label-more, item-more, same-label, same-name, undefined-name, round-name, GoesFirst, Could, Stands, OneOf, unexpected, never-defined, group, used-names}
 use Rattle.rules.specs.Replies.{Reads, accepts, refuses, made, refused, dual-reply, Areas, AsksCompatible, no-dual, then-verdict}
 use Rattle.rules.specs.Tables.{blank-table, node-at, item-at}
 use Rattle.rules.specs.Tokens.{Token, Symbol, tokens}
@@ -54,14 +54,7 @@ empty-fault : {n p : ℕ} → Fault [] n p → (n ≡ unexpected) × (p ≡ 0)
 empty-fault (long-text l) = absurd (omega arith)
 empty-fault (no-text-has S c f) = absurd (empty-no-token S)
 empty-fault (none-may-end c f) = (refl, refl)
-empty-fault (long-word S l) = absurd (empty-no-token S)
-empty-fault (open-bracket S o l) = absurd (empty-no-token S)
-empty-fault (definition-more S d l) = absurd (empty-no-token S)
-empty-fault (node-more S d l) = absurd (empty-no-token S)
-empty-fault (label-more S d l) = absurd (empty-no-token S)
-empty-fault (item-more S d l) = absurd (empty-no-token S)
-empty-fault (same-label S d l) = absurd (empty-no-token S)
-empty-fault (same-name S d l) = absurd (empty-no-token S)
+empty-fault (at-token S f) = absurd (empty-no-token S)
 empty-fault (undefined-name {x} w u e) = absurd (empty-no-text x w)
 empty-fault (round-name {x} w u e) = absurd (empty-no-text x w)
 
@@ -106,18 +99,22 @@ own-name-defined t u e = go (u .before) (u .split)
     go (b ∷ []) d = nil≢cons (tail-eq-of-cons-eq d)
     go (b ∷ c ∷ before) d = nil≢cons (tail-eq-of-cons-eq d)
 
+-- a token alone is never refused with 8
+token-number : {z : Seen} {t : Token} {n : ℕ} → TokenFault z t n → n ≡ never-defined → ⊥
+token-number (long-word l) e = omega arith
+token-number (open-bracket o l) e = omega arith
+token-number (definition-more d l) e = omega arith
+token-number (node-more d l) e = omega arith
+token-number (label-more d l) e = omega arith
+token-number (item-more d l) e = omega arith
+token-number (same-label d l) e = omega arith
+token-number (same-name d l) e = omega arith
+
 own-name-faults : {n p : ℕ} → Fault (bytes own-name) n p → n ≡ never-defined → ⊥
 own-name-faults (long-text l) e = omega arith
 own-name-faults (no-text-has S c f) e = omega arith
 own-name-faults (none-may-end c f) e = omega arith
-own-name-faults (long-word S l) e = omega arith
-own-name-faults (open-bracket S o l) e = omega arith
-own-name-faults (definition-more S d l) e = omega arith
-own-name-faults (node-more S d l) e = omega arith
-own-name-faults (label-more S d l) e = omega arith
-own-name-faults (item-more S d l) e = omega arith
-own-name-faults (same-label S d l) e = omega arith
-own-name-faults (same-name S d l) e = omega arith
+own-name-faults (at-token S f) e = token-number f e
 own-name-faults (undefined-name {t} w u d) e =
     let q = one-tree w own-name-written in own-name-defined t (rw q at u) (rw q at d)
 own-name-faults (round-name w u d) e = omega arith

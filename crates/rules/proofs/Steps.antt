@@ -13,7 +13,7 @@ use borrow.Author.Tests.{eqb-true, leb-true, leb-false, ltb-true}
 use Rattle.rules.specs.Basics.{first}
 use Rattle.rules.specs.Numbers.{labels-most}
 use Rattle.rules.specs.Tables.{node-at, item-count, item-at, label-count, label-at, spelling-at, continuation}
-use Rattle.rules.specs.Pairs.{Pair, Onward, Step, reason, or-else, unless, kinds-differ, counts-differ, item-differs, position, missing, label-missing, labels-by, mismatch-of, mismatch-in, mismatch-at, onto, nowhere, continuation-step, into-item, message-step, branch-step, choose-step, step-by, step-of, step-in, step-at, landed, turn-after}
+use Rattle.rules.specs.Pairs.{Pair, Onward, Step, reason, or-else, unless, kinds-differ, counts-differ, item-differs, position, lacks, label-lacking, by-chooser, mismatch-of, mismatch-at, onto, nowhere, exchanged, continuation-step, into-item, message-step, choice-step, step-by, step-of, step-at, landed, left-in, right-in, turn-after, turns-most}
 use Rattle.rules.proofs.Basics.{first-found}
 use Rattle.rules.proofs.Formed.{FormedMessage, FormedChoice, FormedNode, WellFormed}
 use Rattle.table.specs.declared.Kind.{Kind}
@@ -37,21 +37,21 @@ unless-nothing : (b : Bool) (m : Mismatch) → 0 < reason m → unless b m ≡ m
 unless-nothing true m l e = refl
 unless-nothing false m l e = absurd (omega (arith, ap reason e))
 
-no-label-missing :
-    (x : Node) (xs : List ℕ) (y : Node) (ys : List ℕ) → label-missing x xs y ys ≡ mismatch.Nothing → (i : ℕ) → i < label-count x
+none-lacking :
+    (x : Node) (xs : List ℕ) (y : Node) (ys : List ℕ) → label-lacking x xs y ys ≡ mismatch.Nothing → (i : ℕ) → i < label-count x
     → position (spelling-at x xs i) y ys < label-count y
-unfolding label-missing missing
-no-label-missing x xs y ys e i l =
-    let none-before : label-count x ≤ first (missing x xs y ys) (label-count x) = leb-true _ _ (unless-nothing _ (mismatch.Label _) (omega arith) e) in
-    leb-false _ _ (first-found (missing x xs y ys) (label-count x) .before i (omega arith))
+unfolding label-lacking lacks
+none-lacking x xs y ys e i l =
+    let none-before : label-count x ≤ first (label-count x) (lacks x xs y ys) = leb-true _ _ (unless-nothing _ (mismatch.Label _) (omega arith) e) in
+    leb-false _ _ (first-found (label-count x) (lacks x xs y ys) .before i (omega arith))
 
 -- what of this a step stands on
 no-mismatch :
     (x : Node) (xs : List ℕ) (y : Node) (ys : List ℕ) → mismatch-of x xs y ys ≡ mismatch.Nothing
-    → (item-count x ≡ item-count y) × (labels-by (x .kind) x xs y ys ≡ mismatch.Nothing)
+    → (item-count x ≡ item-count y) × (by-chooser (x .kind) (label-lacking x xs y ys) (label-lacking y ys x xs) ≡ mismatch.Nothing)
 unfolding mismatch-of counts-differ
 no-mismatch x xs y ys e =
-    let labels = labels-by (x .kind) x xs y ys in
+    let labels = by-chooser (x .kind) (label-lacking x xs y ys) (label-lacking y ys x xs) in
     let a = or-else-nothing (kinds-differ x y) (or-else (counts-differ x y) (or-else (item-differs x y) labels)) e in
     let b = or-else-nothing (counts-differ x y) (or-else (item-differs x y) labels) (a .1) in
     let c = or-else-nothing (item-differs x y) labels (b .1) in
@@ -84,9 +84,9 @@ module _ {n m : ℕ} {x : Node} {y : Node} (s : ℕ) (t : Bool) (fx : FormedMess
       go false d false e = tt
 
 module _ {n m : ℕ} {x : Node} {xs : List ℕ} {y : Node} {ys : List ℕ} (s : ℕ) (fx : FormedChoice n xs x) (fy : FormedChoice m ys y) where
-  branch-lands : label-missing x xs y ys ≡ mismatch.Nothing → Lands n m s (branch-step x xs y ys s)
-  unfolding branch-step
-  branch-lands e = go (ltb s (label-count x)) refl
+  choice-lands : label-lacking x xs y ys ≡ mismatch.Nothing → Lands n m s (choice-step x xs y ys s)
+  unfolding choice-step
+  choice-lands e = go (ltb s (label-count x)) refl
     where
       go :
           (a : Bool) → ltb s (label-count x) ≡ a
@@ -96,23 +96,12 @@ module _ {n m : ℕ} {x : Node} {xs : List ℕ} {y : Node} {ys : List ℕ} (s : 
           ])
       go true d =
           let k = ltb-true _ _ d in
-          (fx .label-links s k, fy .label-links _ (no-label-missing x xs y ys e s k), omega (arith, fx .few-labels))
+          (fx .label-links s k, fy .label-links _ (none-lacking x xs y ys e s k), omega (arith, fx .few-labels))
       go false d = tt
 
-  choose-lands : label-missing y ys x xs ≡ mismatch.Nothing → Lands n m s (choose-step x xs y ys s)
-  unfolding choose-step
-  choose-lands e = go (ltb s (label-count y)) refl
-    where
-      go :
-          (a : Bool) → ltb s (label-count y) ≡ a
-          → Lands n m s (elim a as (λ z. Onward) [
-            | true ↦ onto (label-at x (position (spelling-at y ys s) x xs) .to) (label-at y s .to) false
-            | false ↦ nowhere
-          ])
-      go true d =
-          let k = ltb-true _ _ d in
-          (fx .label-links _ (no-label-missing y ys x xs e s k), fy .label-links s k, omega (arith, fy .few-labels))
-      go false d = tt
+exchanged-lands : (n m s : ℕ) (o : Onward) → Lands n m s o → Lands m n s (exchanged o)
+exchanged-lands n m s nowhere h = tt
+exchanged-lands n m s (onto l r t) h = (h .1, h .0, h .2)
 
 node-lands :
     {n m : ℕ} {x : Node} {xs : List ℕ} {y : Node} {ys : List ℕ} (s : ℕ) → FormedNode n xs x → FormedNode m ys y
@@ -120,20 +109,22 @@ node-lands :
 unfolding step-of
 node-lands {n} {m} {x} {xs} {y} {ys} s fx fy e = let f = no-mismatch x xs y ys e in go (f .0) (x .kind) (f .1)
   where
-    go : item-count x ≡ item-count y → (k : Kind) → labels-by k x xs y ys ≡ mismatch.Nothing → Lands n m s (step-by k x xs y ys s)
+    go :
+        item-count x ≡ item-count y → (k : Kind) → by-chooser k (label-lacking x xs y ys) (label-lacking y ys x xs) ≡ mismatch.Nothing
+        → Lands n m s (step-by k x xs y ys s)
     go c End e = tt
     go c Receive e = message-lands s false (fx .message) (fy .message) c
     go c Send e = message-lands s true (fx .message) (fy .message) c
-    go c Branch e = branch-lands s (fx .choice) (fy .choice) e
-    go c Choose e = choose-lands s (fx .choice) (fy .choice) e
+    go c Branch e = choice-lands s (fx .choice) (fy .choice) e
+    go c Choose e = exchanged-lands m n s (choice-step y ys x xs s) (choice-lands s (fy .choice) (fx .choice) e)
 
 -- a pair of the tables' nodes
 pub record Within (new old : Table) (p : Pair) : Type 0 where
-  pub turn-below : p .turn < 2
+  pub turn-below : p .turn < turns-most
   pub new-below : p .new < new .count
   pub old-below : p .old < old .count
 
-turn-after-below : (t : Bool) (u : ℕ) → u < 2 → turn-after t u < 2
+turn-after-below : (t : Bool) (u : ℕ) → u < turns-most → turn-after t u < turns-most
 turn-after-below true zero l = omega arith
 turn-after-below true (suc u) l = omega arith
 turn-after-below false u l = l
@@ -147,7 +138,7 @@ step-one S R = let d = S .leads in let e = R .leads in cc
 module _ {new : Table} {new-names : List ℕ} {old : Table} {old-names : List ℕ} (new-formed : WellFormed new new-names) (old-formed : WellFormed old old-names) where
   step-lands : (p : Pair) (s : ℕ) (q : Pair) → Within new old p → Step new new-names old old-names p s q → Within new old q × (s < labels-most)
   unfolding mismatch-at step-at
-  step-lands p s q w S = go (p .turn) (w .turn-below) (S .fits) (S .leads)
+  step-lands p s q w S = go (p .turn) (w .turn-below) refl
     where
       x : FormedNode (new .count) new-names (node-at new (p .new))
       x = new-formed .each (p .new) (w .new-below)
@@ -163,7 +154,7 @@ module _ {new : Table} {new-names : List ℕ} {old : Table} {old-names : List �
         h .2,
       )
 
-      turned : (u : ℕ) → suc u < 2 → (o : Onward) → Lands (old .count) (new .count) s o → landed (suc u) o ≡ some q → Within new old q × (s < labels-most)
+      turned : (u : ℕ) → suc u < turns-most → (o : Onward) → Lands (old .count) (new .count) s o → landed (suc u) o ≡ some q → Within new old q × (s < labels-most)
       turned u k nowhere h e = let z : _≡_ {A = ℕ} 0 1 = cc in absurd (omega arith)
       turned u k (onto l r t) h e = (
         subst (Within new old) (Option·some-injective _ q e)
@@ -171,12 +162,13 @@ module _ {new : Table} {new-names : List ℕ} {old : Table} {old-names : List �
         h .2,
       )
 
-      go :
-          (u : ℕ) → u < 2 → mismatch-in u (node-at new (p .new)) new-names (node-at old (p .old)) old-names ≡ mismatch.Nothing
-          → landed u (step-in u (node-at new (p .new)) new-names (node-at old (p .old)) old-names s) ≡ some q
-          → Within new old q × (s < labels-most)
-      go zero k f e = straight (step-of (node-at new (p .new)) new-names (node-at old (p .old)) old-names s) (node-lands s x y f) e
-      go (suc u) k f e = turned u k (step-of (node-at old (p .old)) old-names (node-at new (p .new)) new-names s) (node-lands s y x f) e
+      go : (u : ℕ) → u < turns-most → p .turn ≡ u → Within new old q × (s < labels-most)
+      go zero k d =
+          straight (step-of (node-at new (p .new)) new-names (node-at old (p .old)) old-names s) (node-lands s x y (rw d at (S .fits)))
+          (rw d at (S .leads))
+      go (suc u) k d =
+          turned u k (step-of (node-at old (p .old)) old-names (node-at new (p .new)) new-names s) (node-lands s y x (rw d at (S .fits)))
+          (rw d at (S .leads))
 
   pub step-within : {p : Pair} {s : ℕ} {q : Pair} → Within new old p → Step new new-names old old-names p s q → Within new old q
   step-within {p} {s} {q} w S = step-lands p s q w S .0

@@ -31,13 +31,13 @@ every zero p = true
 every (suc n) p = elim (p n) [ true ↦ every n p | false ↦ false ]
 
 -- the first position below n that passes the test; n where none does
-unfoldable pub first : (ℕ → Bool) → ℕ → ℕ
-first p zero = zero
-first p (suc n) = elim (p zero) [ true ↦ zero | false ↦ suc (first (λ i. p (suc i)) n) ]
+unfoldable pub first : ℕ → (ℕ → Bool) → ℕ
+first zero p = zero
+first (suc n) p = elim (p zero) [ true ↦ zero | false ↦ suc (first n (λ i. p (suc i))) ]
 
 -- whether some position below n passes the test
 abbrev pub some-below : ℕ → (ℕ → Bool) → Bool
-some-below n p = ltb (first p n) n
+some-below n p = ltb (first n p) n
 
 -- f at 0, 1 and so on, n of them
 unfoldable pub listed : {A : Type 0} → ℕ → (ℕ → A) → List A

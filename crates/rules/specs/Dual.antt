@@ -4,8 +4,8 @@ use mathlib.Core.Bool.{Bool, true, false}
 use mathlib.Core.List.{List, [], _++_}
 use Prim.Native.Nat.{ℕ, _+_}
 use Rattle.rules.specs.Basics.{some-below, listed, fill}
-use Rattle.rules.specs.Numbers.{items-most, labels-most, table-most}
-use Rattle.rules.specs.Tables.{blank-slot, blank-label, blank-node, node-at, item-count, item-at, label-count, label-at, is-message, used}
+use Rattle.rules.specs.Numbers.{items-most, labels-most, table-nodes-most}
+use Rattle.rules.specs.Tables.{blank-slot, blank-label, blank-node, node-at, item-count, item-at, label-count, label-at, continuation, is-message, only-if}
 use Rattle.table.specs.declared.Kind.{Kind}
 use Rattle.table.specs.declared.Kind.the-variants.{End, Receive, Send, Branch, Choose}
 use Rattle.table.specs.declared.Item.{Item}
@@ -51,7 +51,7 @@ remade k i m x =
       «item_count» = item-count x;
       labels = fill labels-most blank-label (listed (label-count x) (λ j. moved-label m (label-at x j)));
       «label_count» = label-count x;
-      next = used (is-message (x .kind)) (x .next + m);
+      next = only-if (is-message (x .kind)) (continuation x + m);
     }
 
 -- "continuations and choices go on as duals": they link to turned nodes, which keep their numbers; "a session item is not turned round":
@@ -78,7 +78,7 @@ unfoldable pub dual : Table → Table
 dual t =
     record {
       nodes =
-          fill table-most blank-node (listed (t .count) (λ i. turned-node (t .count) (node-at t i)) ++ originals (hands-over t) t);
+          fill table-nodes-most blank-node (listed (t .count) (λ i. turned-node (t .count) (node-at t i)) ++ originals (hands-over t) t);
       count = dual-count (hands-over t) (t .count);
       start = t .start;
     }

@@ -7,7 +7,7 @@ use lib.Dec.{leb, ltb}
 use lib.ListN.{length}
 use Rattle.rules.specs.Basics.{same, every}
 use Rattle.rules.specs.Words.{may-name}
-use Rattle.rules.specs.Numbers.{items-most, labels-most, table-most}
+use Rattle.rules.specs.Numbers.{items-most, labels-most, table-nodes-most}
 use Rattle.rules.specs.Tables.{node-at, item-at, item-count, label-at, label-count, continuation, spelling, spelling-at}
 use Rattle.table.specs.declared.Kind.{Kind}
 use Rattle.table.specs.declared.Kind.the-variants.{End, Receive, Send, Branch, Choose}
@@ -55,5 +55,5 @@ node-formed n names x = formed-by (x .kind) n names x
 -- "A table is well formed if it has 1 to 128 nodes, .. a start and links within them, .."
 unfoldable pub well-formed : Table → List ℕ → Bool
 well-formed t names =
-    leb 1 (t .count) && leb (t .count) table-most && ltb (t .start) (t .count)
+    leb 1 (t .count) && leb (t .count) table-nodes-most && ltb (t .start) (t .count)
     && every (t .count) (λ i. node-formed (t .count) names (node-at t i))

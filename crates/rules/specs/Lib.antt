@@ -5,8 +5,8 @@ pub mod Tokens
 pub mod Notation
 pub mod Numbers
 pub mod Tables
-pub mod Formed
 pub mod Numbering
+pub mod Formed
 pub mod Refusals
 pub mod Dual
 pub mod Pairs

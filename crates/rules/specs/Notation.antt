@@ -42,14 +42,14 @@ abbrev pub sign : Char → Symbol
 sign c = one-byte (code c)
 
 -- the reserved words, by their positions in the list
-abbrev pub end-word : Symbol
-end-word = reserved-word 0
+abbrev pub end-position : ℕ
+end-position = 0
 
-abbrev pub sort-word : Sort → Symbol
-sort-word String = reserved-word 1
-sort-word Float = reserved-word 2
-sort-word Boolean = reserved-word 3
-sort-word Void = reserved-word 4
+abbrev pub sort-position : Sort → ℕ
+sort-position String = 1
+sort-position Float = 2
+sort-position Boolean = 3
+sort-position Void = 4
 
 -- "a message: `?`, `(`, items, `)`, `;`, type; or `!`, `[`, items, `]`, `;`, type"
 abbrev pub message-sign : Way → Symbol
@@ -77,7 +77,7 @@ parted (session x xs) k = sign "," ∷ k
 
 abbrev mutual
   pub write-type : Ty → List Symbol → List Symbol
-  write-type ended k = end-word ∷ k
+  write-type ended k = reserved-word end-position ∷ k
   write-type (name w) k = word w ∷ k
   write-type (message d xs x) k = message-sign d ∷ opening d ∷ write-items d xs (sign ";" ∷ write-type x k)
   write-type (choice d ls) k = choice-sign d ∷ sign "{" ∷ write-labels ls k
@@ -85,7 +85,7 @@ abbrev mutual
   -- the items of a list, and what closes it
   pub write-items : Way → Items → List Symbol → List Symbol
   write-items d no-items k = closing d ∷ k
-  write-items d (sort s xs) k = sort-word s ∷ parted xs (write-items d xs k)
+  write-items d (sort s xs) k = reserved-word (sort-position s) ∷ parted xs (write-items d xs k)
   write-items d (session x xs) k = write-type x (parted xs (write-items d xs k))
 
   pub write-labels : Labels → List Symbol → List Symbol

@@ -7,7 +7,7 @@ use mathlib.Core.Option.{Option, none, some}
 use Prim.Native.Nat.{ℕ, zero, suc}
 use lib.ListN.{length}
 use Rattle.rules.specs.Basics.{same, fill}
-use Rattle.rules.specs.Numbers.{items-most, labels-most, table-most}
+use Rattle.rules.specs.Numbers.{items-most, labels-most, table-nodes-most}
 use Rattle.rules.specs.Tokens.{Token}
 use Rattle.rules.specs.Notation.{Way, into, out, Ty, ended, name, message, choice, Items, no-items, sort, session, Labels, last-label, label, Text, last-definition, definition}
 use Rattle.rules.specs.Tables.{blank-slot, blank-label, blank-items, blank-labels, blank-node}
@@ -154,7 +154,7 @@ start-type (definition w x ds) = x
 unfoldable pub table-of : Text → Table
 table-of t =
     record {
-      nodes = fill table-most blank-node (nodes-text t t zero);
+      nodes = fill table-nodes-most blank-node (nodes-text t t zero);
       count = behind-text t zero;
       start = link t (start-type t) zero;
     }

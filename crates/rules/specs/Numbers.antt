@@ -11,8 +11,8 @@ abbrev pub definitions-most : ℕ
 definitions-most = 96
 
 -- "64 nodes in a text"
-abbrev pub nodes-most : ℕ
-nodes-most = 64
+abbrev pub text-nodes-most : ℕ
+text-nodes-most = 64
 
 -- "16 labels in a choice"
 abbrev pub labels-most : ℕ
@@ -26,6 +26,6 @@ items-most = 4
 abbrev pub brackets-most : ℕ
 brackets-most = 16
 
--- "A table has at most 128 nodes."
-abbrev pub table-most : ℕ
-table-most = 128
+-- "A table has at most 128 nodes." (The arrays of the crate `table` have this length, and the two before.)
+abbrev pub table-nodes-most : ℕ
+table-nodes-most = 128

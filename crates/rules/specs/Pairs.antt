@@ -48,8 +48,8 @@ unless true m = mismatch.Nothing
 unless false m = m
 
 -- what is wrong at the first position below n that passes the test; nothing where none does
-abbrev pub at-first : (ℕ → Mismatch) → (ℕ → Bool) → ℕ → Mismatch
-at-first m p n = unless (leb n (first p n)) (m (first p n))
+abbrev pub at-first : (ℕ → Mismatch) → ℕ → (ℕ → Bool) → Mismatch
+at-first m n p = unless (leb n (first n p)) (m (first n p))
 
 -- `end`, `?`, `!`, `&`, `+`
 abbrev pub kind-number : Kind → ℕ
@@ -82,36 +82,43 @@ items-agree (Session i) (OfSort b) = false
 items-agree (Session i) (Session j) = true
 
 unfoldable pub item-differs : Node → Node → Mismatch
-item-differs x y = at-first mismatch.Item (λ i. not (items-agree (item-at x i) (item-at y i))) (item-count x)
+item-differs x y = at-first mismatch.Item (item-count x) (λ i. not (items-agree (item-at x i) (item-at y i)))
 
 -- "by label and not by position": where the label w stands among those of y; their count where it is not there
 unfoldable pub position : List ℕ → Node → List ℕ → ℕ
-position w y ys = first (λ j. same w (spelling-at y ys j)) (label-count y)
+position w y ys = first (label-count y) (λ j. same w (spelling-at y ys j))
 
--- label i of the chooser x is missing in y
-unfoldable pub missing : Node → List ℕ → Node → List ℕ → ℕ → Bool
-missing x xs y ys i = leb (label-count y) (position (spelling-at x xs i) y ys)
+-- y lacks label i of the chooser x
+unfoldable pub lacks : Node → List ℕ → Node → List ℕ → ℕ → Bool
+lacks x xs y ys i = leb (label-count y) (position (spelling-at x xs i) y ys)
 
 -- "23: a chosen label is missing", x being the chooser; "Detail is the first missing one's position in the chooser's list."
-unfoldable pub label-missing : Node → List ℕ → Node → List ℕ → Mismatch
-label-missing x xs y ys = at-first mismatch.Label (missing x xs y ys) (label-count x)
+unfoldable pub label-lacking : Node → List ℕ → Node → List ℕ → Mismatch
+label-lacking x xs y ys = at-first mismatch.Label (label-count x) (lacks x xs y ys)
 
--- "For `+` the right lists the choices and the left must have them; for `&` the left lists and the right must have them."
-abbrev pub labels-by : Kind → Node → List ℕ → Node → List ℕ → Mismatch
-labels-by End x xs y ys = mismatch.Nothing
-labels-by Receive x xs y ys = mismatch.Nothing
-labels-by Send x xs y ys = mismatch.Nothing
-labels-by Branch x xs y ys = label-missing x xs y ys
-labels-by Choose x xs y ys = label-missing y ys x xs
+-- "For `+` the right lists the choices and the left must have them; for `&` the left lists and the right must have them.": what holds if
+-- the left one chooses, or if the right one does. (Other nodes list nothing, so that it is the same.)
+abbrev pub by-chooser : {A : Type 0} → Kind → A → A → A
+by-chooser End left right = right
+by-chooser Receive left right = right
+by-chooser Send left right = right
+by-chooser Branch left right = left
+by-chooser Choose left right = right
 
 unfoldable pub mismatch-of : Node → List ℕ → Node → List ℕ → Mismatch
 mismatch-of x xs y ys =
-    or-else (kinds-differ x y) (or-else (counts-differ x y) (or-else (item-differs x y) (labels-by (x .kind) x xs y ys)))
+    or-else (kinds-differ x y)
+    (or-else (counts-differ x y)
+    (or-else (item-differs x y) (by-chooser (x .kind) (label-lacking x xs y ys) (label-lacking y ys x xs))))
 
 -- Where a step leads: to a node on the left and one on the right, and whether left and right then change places.
 pub data Onward : Type 0 where
   onto : (left right : ℕ) (turns : Bool) → Onward
   nowhere : Onward
+
+abbrev pub exchanged : Onward → Onward
+exchanged (onto l r t) = onto r l t
+exchanged nowhere = nowhere
 
 -- "then 4 for the continuation"
 abbrev pub continuation-step : ℕ
@@ -131,28 +138,24 @@ message-step x y t s =
       | false ↦ elim (eqb s continuation-step) [ true ↦ onto (continuation x) (continuation y) false | false ↦ nowhere ]
     ]
 
--- "for a choice, each label of the chooser, numbered by its position there"
-unfoldable pub branch-step : Node → List ℕ → Node → List ℕ → ℕ → Onward
-branch-step x xs y ys s =
+-- "for a choice, each label of the chooser, numbered by its position there", x being the chooser
+unfoldable pub choice-step : Node → List ℕ → Node → List ℕ → ℕ → Onward
+choice-step x xs y ys s =
     elim (ltb s (label-count x)) [
       | true ↦ onto (label-at x s .to) (label-at y (position (spelling-at x xs s) y ys) .to) false
       | false ↦ nowhere
     ]
 
-unfoldable pub choose-step : Node → List ℕ → Node → List ℕ → ℕ → Onward
-choose-step x xs y ys s =
-    elim (ltb s (label-count y)) [
-      | true ↦ onto (label-at x (position (spelling-at y ys s) x xs) .to) (label-at y s .to) false
-      | false ↦ nowhere
-    ]
+abbrev pub chosen-step : Kind → Node → List ℕ → Node → List ℕ → ℕ → Onward
+chosen-step k x xs y ys s = by-chooser k (choice-step x xs y ys s) (exchanged (choice-step y ys x xs s))
 
 -- "Stepping into an item of `?` keeps left and right; into an item of `!` it turns them."
 abbrev pub step-by : Kind → Node → List ℕ → Node → List ℕ → ℕ → Onward
 step-by End x xs y ys s = nowhere
 step-by Receive x xs y ys s = message-step x y false s
 step-by Send x xs y ys s = message-step x y true s
-step-by Branch x xs y ys s = branch-step x xs y ys s
-step-by Choose x xs y ys s = choose-step x xs y ys s
+step-by Branch x xs y ys s = chosen-step Branch x xs y ys s
+step-by Choose x xs y ys s = chosen-step Choose x xs y ys s
 
 unfoldable pub step-of : Node → List ℕ → Node → List ℕ → ℕ → Onward
 step-of x xs y ys s = step-by (x .kind) x xs y ys s
@@ -163,10 +166,18 @@ pub record Pair : Type 0 where
   pub new : ℕ
   pub old : ℕ
 
--- "in turn 1 the old table's node is the left one"
-abbrev pub mismatch-in : ℕ → Node → List ℕ → Node → List ℕ → Mismatch
-mismatch-in zero x xs y ys = mismatch-of x xs y ys
-mismatch-in (suc u) x xs y ys = mismatch-of y ys x xs
+-- "with turn 0 or 1"
+abbrev pub turns-most : ℕ
+turns-most = 2
+
+-- "in turn 1 the old table's node is the left one": of the new one and the old one, the left and the right
+abbrev pub left-in : {A : Type 0} → ℕ → A → A → A
+left-in zero new old = new
+left-in (suc u) new old = old
+
+abbrev pub right-in : {A : Type 0} → ℕ → A → A → A
+right-in zero new old = old
+right-in (suc u) new old = new
 
 abbrev pub other-turn : ℕ → ℕ
 other-turn zero = 1
@@ -176,26 +187,28 @@ abbrev pub turn-after : Bool → ℕ → ℕ
 turn-after true u = other-turn u
 turn-after false u = u
 
+-- the pair that is got to in turn u; the left node is the new table's in turn 0, and the right one in turn 1
 abbrev pub landed : ℕ → Onward → Option Pair
 landed u nowhere = none
-landed zero (onto l r t) = some (record { turn = turn-after t zero; new = l; old = r })
-landed (suc u) (onto l r t) = some (record { turn = turn-after t (suc u); new = r; old = l })
-
-abbrev pub step-in : ℕ → Node → List ℕ → Node → List ℕ → ℕ → Onward
-step-in zero x xs y ys s = step-of x xs y ys s
-step-in (suc u) x xs y ys s = step-of y ys x xs s
+landed u (onto l r t) = some (record { turn = turn-after t u; new = left-in u l r; old = right-in u l r })
 
 module _ (new : Table) (new-names : List ℕ) (old : Table) (old-names : List ℕ) where
   -- "starts as (new, old), turn 0"
   abbrev pub starts : Pair
   starts = record { turn = 0; new = new .start; old = old .start }
 
+  -- what is asked of the left node and its name bytes, and of the right ones
+  abbrev pub beside : {A : Type 0} → (Node → List ℕ → Node → List ℕ → A) → Pair → A
+  beside f p =
+      f (left-in (p .turn) (node-at new (p .new)) (node-at old (p .old))) (left-in (p .turn) new-names old-names)
+      (right-in (p .turn) (node-at new (p .new)) (node-at old (p .old))) (right-in (p .turn) new-names old-names)
+
   unfoldable pub mismatch-at : Pair → Mismatch
-  mismatch-at p = mismatch-in (p .turn) (node-at new (p .new)) new-names (node-at old (p .old)) old-names
+  mismatch-at p = beside mismatch-of p
 
   -- where step s of a pair leads
   unfoldable pub step-at : Pair → ℕ → Option Pair
-  step-at p s = landed (p .turn) (step-in (p .turn) (node-at new (p .new)) new-names (node-at old (p .old)) old-names s)
+  step-at p s = landed (p .turn) (beside (λ x xs y ys. step-of x xs y ys s) p)
 
   -- "It is a mismatch"
   abbrev pub IsMismatch : Pair → Type 0

@@ -11,8 +11,8 @@ use lib.ListN.{length, getD}
 use Rattle.rules.specs.Basics.{bytes, same, some-below}
 use Rattle.rules.specs.Words.{word-most}
 use Rattle.rules.specs.Tokens.{Token, Symbol, word, reserved-word, one-byte, symbol, tokens}
-use Rattle.rules.specs.Notation.{Ty, ended, name, message, choice, Items, no-items, sort, session, Labels, last-label, label, Text, last-definition, definition, Writes}
-use Rattle.rules.specs.Numbers.{text-most, definitions-most, nodes-most, labels-most, items-most, brackets-most}
+use Rattle.rules.specs.Notation.{Ty, ended, name, message, choice, Items, no-items, sort, session, Labels, last-label, label, Text, last-definition, definition, end-position, Writes}
+use Rattle.rules.specs.Numbers.{text-most, definitions-most, text-nodes-most, labels-most, items-most, brackets-most}
 use Rattle.rules.specs.Numbering.{to-name, to-nothing, definition-leads, follow}
 
 -- the column "No."
@@ -68,7 +68,7 @@ pub record Stands (s : List ℕ) (done : List Token) (t : Token) : Type 0 where
 -- 4 to 7. What is counted along a text. What begins at a token follows from the token before it: a definition behind `.` or at the
 -- beginning, a label behind `{` or `|`, an item behind `(`, `[` or `,`.
 pub data Begins : Type 0 where
-  a-definition a-label an-item neither : Begins
+  a-definition a-label an-item nothing-new : Begins
 
 -- whether a symbol is one of these bytes
 unfoldable pub one-of : List ℕ → Symbol → Bool
@@ -78,7 +78,7 @@ one-of bs (one-byte b) = some-below (length bs) (λ i. eqb b (getD bs i 0))
 
 abbrev pub is-end : Symbol → Bool
 is-end (word t) = false
-is-end (reserved-word i) = eqb i 0
+is-end (reserved-word i) = eqb i end-position
 is-end (one-byte b) = false
 
 -- "brackets `(`, `[`, `{`"; "A `;` opens nothing."
@@ -99,7 +99,7 @@ begins-behind t =
       | false ↦
           elim (one-of (bytes "{|") (symbol t)) [
             | true ↦ a-label
-            | false ↦ elim (one-of (bytes "([,") (symbol t)) [ true ↦ an-item | false ↦ neither ]
+            | false ↦ elim (one-of (bytes "([,") (symbol t)) [ true ↦ an-item | false ↦ nothing-new ]
           ]
     ]
 
@@ -127,20 +127,20 @@ abbrev pub names-after : Begins → List ℕ → List (List ℕ) → List (List 
 names-after a-definition w ns = w ∷ ns
 names-after a-label w ns = ns
 names-after an-item w ns = ns
-names-after neither w ns = ns
+names-after nothing-new w ns = ns
 
 abbrev pub entries-after : Begins → List ℕ → List (List (List ℕ)) → List (List (List ℕ))
 entries-after a-definition w bs = bs
 entries-after a-label w bs = entered w bs
 entries-after an-item w bs = entered w bs
-entries-after neither w bs = bs
+entries-after nothing-new w bs = bs
 
-abbrev pub closed : List (List (List ℕ)) → List (List (List ℕ))
-closed [] = []
-closed (es ∷ bs) = bs
+abbrev pub bracket-closed : List (List (List ℕ)) → List (List (List ℕ))
+bracket-closed [] = []
+bracket-closed (es ∷ bs) = bs
 
 unfoldable pub brackets-after : Token → List (List (List ℕ)) → List (List (List ℕ))
-brackets-after t bs = elim (opens t) [ true ↦ [] ∷ bs | false ↦ elim (closes t) [ true ↦ closed bs | false ↦ bs ] ]
+brackets-after t bs = elim (opens t) [ true ↦ [] ∷ bs | false ↦ elim (closes t) [ true ↦ bracket-closed bs | false ↦ bs ] ]
 
 unfoldable pub nodes-after : Token → ℕ → ℕ
 nodes-after t n = elim (begins-node t) [ true ↦ suc n | false ↦ n ]
@@ -165,6 +165,23 @@ seen done = seen-from unseen done
 -- whether w is one of the words ws
 unfoldable pub among : List (List ℕ) → List ℕ → Bool
 among ws w = some-below (length ws) (λ i. same w (getD ws i []))
+
+-- Refusal n of the token t, after what is counted before it. (Behind a token that no text could have there the counts mean nothing; there
+-- the refusal 2 of that token has the lesser place.)
+pub data TokenFault (z : Seen) (t : Token) : ℕ → Type 0 where
+  -- "word over 16 bytes"
+  long-word : word-most < length (t .spelled) → TokenFault z t word-too-long
+  -- "a 17th open bracket"
+  open-bracket : opens t ≡ true → brackets-most ≤ length (z .brackets) → TokenFault z t bracket-too-many
+  -- "one definition, node, label or item too many"
+  definition-more : z .next ≡ a-definition → definitions-most ≤ length (z .names) → TokenFault z t one-too-many
+  node-more : begins-node t ≡ true → text-nodes-most ≤ z .nodes → TokenFault z t one-too-many
+  label-more : z .next ≡ a-label → labels-most ≤ length (innermost (z .brackets)) → TokenFault z t one-too-many
+  item-more : z .next ≡ an-item → items-most ≤ length (innermost (z .brackets)) → TokenFault z t one-too-many
+  -- "label twice in a choice"
+  same-label : z .next ≡ a-label → among (innermost (z .brackets)) (t .spelled) ≡ true → TokenFault z t label-twice
+  -- "name defined twice"
+  same-name : z .next ≡ a-definition → among (z .names) (t .spelled) ≡ true → TokenFault z t name-twice
 
 -- 8. the names used in a tree, in written order, and those behind
 abbrev mutual
@@ -206,38 +223,14 @@ pub data Fault (s : List ℕ) : ℕ → ℕ → Type 0 where
   no-text-has : {done : List Token} {t : Token} → Stands s done t → Could done → (Could (done ++ (t ∷ [])) → ⊥) → Fault s unexpected (t .at)
   -- "or the end of the text where none may end"
   none-may-end : Could (tokens s) → ((x : Text) → Writes s x → ⊥) → Fault s unexpected (length s)
-  -- "word over 16 bytes"
-  long-word : {done : List Token} {t : Token} → Stands s done t → word-most < length (t .spelled) → Fault s word-too-long (t .at)
-  -- "a 17th open bracket"
-  open-bracket :
-      {done : List Token} {t : Token} → Stands s done t → opens t ≡ true → brackets-most ≤ length (seen done .brackets)
-      → Fault s bracket-too-many (t .at)
-  -- "one definition, node, label or item too many"
-  definition-more :
-      {done : List Token} {t : Token} → Stands s done t → seen done .next ≡ a-definition → definitions-most ≤ length (seen done .names)
-      → Fault s one-too-many (t .at)
-  node-more :
-      {done : List Token} {t : Token} → Stands s done t → begins-node t ≡ true → nodes-most ≤ seen done .nodes
-      → Fault s one-too-many (t .at)
-  label-more :
-      {done : List Token} {t : Token} → Stands s done t → seen done .next ≡ a-label
-      → labels-most ≤ length (innermost (seen done .brackets)) → Fault s one-too-many (t .at)
-  item-more :
-      {done : List Token} {t : Token} → Stands s done t → seen done .next ≡ an-item
-      → items-most ≤ length (innermost (seen done .brackets)) → Fault s one-too-many (t .at)
-  -- "label twice in a choice"
-  same-label :
-      {done : List Token} {t : Token} → Stands s done t → seen done .next ≡ a-label
-      → among (innermost (seen done .brackets)) (t .spelled) ≡ true → Fault s label-twice (t .at)
-  -- "name defined twice"
-  same-name :
-      {done : List Token} {t : Token} → Stands s done t → seen done .next ≡ a-definition → among (seen done .names) (t .spelled) ≡ true
-      → Fault s name-twice (t .at)
+  -- 3 to 7, at a token's first byte
+  at-token : {done : List Token} {t : Token} {n : ℕ} → Stands s done t → TokenFault (seen done) t n → Fault s n (t .at)
   -- "name used, never defined"
   undefined-name :
       {x : Text} {t : Token} → Writes s x → OneOf t (used-names x) → definition-leads x 0 (t .spelled) ≡ to-nothing
       → Fault s never-defined (t .at)
-  -- "a definition whose names lead round and never to a node": however many names are followed
+  -- "a definition whose names lead round and never to a node": never, however many names are followed. (Names that lead to an undefined
+  -- one do not either; its use is refused with 8, which goes before.)
   round-name :
       {x : Text} {t : Token} → Writes s x → OneOf t (defined-names x) → ((n : ℕ) → follow x n (to-name (t .spelled)) ≡ none)
       → Fault s leads-round (t .at)

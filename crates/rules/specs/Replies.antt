@@ -1,24 +1,23 @@
 -- What each public function answers, and what each lent area then holds: one definition for each promise, for every input.
 -- Assumes nothing.
-use mathlib.Core.Bool.{Bool, true, false, not, _&&_}
+use mathlib.Core.Bool.{Bool, true, false, _&&_}
 use mathlib.Core.List.{List, [], _∷_, _++_}
 use mathlib.Core.Option.{Option, none, some}
 use mathlib.Core.Path.{_≡_}
-use Prim.Native.Nat.{ℕ, zero, suc, _<_, _≤_, _+_, _*_}
+use Prim.Native.Nat.{ℕ, suc, _<_, _≤_, _+_, _*_}
 use lib.Dec.{eqb, ltb}
 use lib.ListN.{length, getD, take, drop, replicate}
-use Rattle.rules.specs.Numbers.{table-most}
+use Rattle.rules.specs.Numbers.{table-nodes-most}
 use Rattle.rules.specs.Notation.{Text, Writes}
 use Rattle.rules.specs.Numbering.{table-of}
 use Rattle.rules.specs.Refusals.{Fault, GoesFirst, not-well-formed, area-too-short, dual-too-large}
 use Rattle.rules.specs.Tables.{blank-table, node-at, label-count, spelling-at, is-choice}
 use Rattle.rules.specs.Formed.{well-formed}
 use Rattle.rules.specs.Dual.{dual, dual-count, hands-over}
-use Rattle.rules.specs.Pairs.{Pair, IsMismatch, mismatch-at, reason, detail, kind-number}
+use Rattle.rules.specs.Pairs.{Pair, turns-most, left-in, right-in, by-chooser, IsMismatch, mismatch-at, reason, detail, kind-number}
 use Rattle.rules.specs.Runs.{Run, Before}
 use Rattle.rules.specs.Replace.{Smallest}
 use Rattle.table.specs.declared.Kind.{Kind}
-use Rattle.table.specs.declared.Kind.the-variants.{End, Receive, Send, Branch, Choose}
 use Rattle.table.specs.declared.Node.{Node}
 use Rattle.table.specs.declared.Table.{Table}
 use Rattle.table.specs.declared.answers.Answer.the-variants as answer
@@ -49,7 +48,7 @@ dual-reply t names =
     elim (well-formed t names) [
       | false ↦ refused not-well-formed 1
       | true ↦
-          elim (ltb table-most (dual-count (hands-over t) (t .count))) [
+          elim (ltb table-nodes-most (dual-count (hands-over t) (t .count))) [
             | true ↦ refused dual-too-large (t .count)
             | false ↦ made (dual t)
           ]
@@ -63,7 +62,7 @@ pub record Areas : Type 0 where
 
 -- "With n and m nodes the lent areas are: marks, 2 × n × m bytes; path, 2 × n × m numbers of 16 bits; scratch, 4 × n × m numbers of 16 bits."
 abbrev pub pair-count : Table → Table → ℕ
-pair-count new old = 2 * new .count * old .count
+pair-count new old = turns-most * new .count * old .count
 
 abbrev pub scratch-size : Table → Table → ℕ
 scratch-size new old = 4 * new .count * old .count
@@ -86,7 +85,7 @@ abbrev pub cleared : ℕ → List ℕ → List ℕ
 cleared k a = replicate k 0 ++ drop k a
 
 module _ (new : Table) (new-names : List ℕ) (old : Table) (old-names : List ℕ) (before after : Areas) where
-  -- "both tables well formed" and every area long enough: no refusal applies
+  -- no refusal applies: both tables are well formed, and every area is long enough
   pub record NoRefusal : Type 0 where
     pub new-formed : well-formed new new-names ≡ true
     pub old-formed : well-formed old old-names ≡ true
@@ -100,7 +99,7 @@ module _ (new : Table) (new-names : List ℕ) (old : Table) (old-names : List �
     pub smallest : Smallest new new-names old old-names set
     pub size : length (after .marks) ≡ length (before .marks)
     pub marked :
-        (p : Pair) → p .turn < 2 → p .new < new .count → p .old < old .count
+        (p : Pair) → p .turn < turns-most → p .new < new .count → p .old < old .count
         → getD (after .marks) (mark-place new old p) 0 ≡ mark (set p)
     pub beyond : drop (pair-count new old) (after .marks) ≡ drop (pair-count new old) (before .marks)
     pub counted : count ≡ count-marks (take (pair-count new old) (after .marks))
@@ -160,35 +159,27 @@ pub data AsksCompatible (new : Table) (new-names : List ℕ) (other : Table) (ot
       {t : Table} {v : Verdict} → dual-reply other other-names ≡ made t → Replaces new new-names t other-names before after v
       → AsksCompatible new new-names other other-names before after (made t) (some v)
 
--- The missing label: who chooses. "For `+` the right lists the choices ..; for `&` the left lists", and "in turn 1 the old table's node is
--- the left one".
-abbrev pub left-chooses : Kind → Bool
-left-chooses End = false
-left-chooses Receive = false
-left-chooses Send = false
-left-chooses Branch = true
-left-chooses Choose = false
+-- The missing label: of what is the new table's and what is the old one's, what is the chooser's, "by kind and turn".
+abbrev pub of-chooser : {A : Type 0} → Kind → ℕ → A → A → A
+of-chooser k turn new old = by-chooser k (left-in turn new old) (right-in turn new old)
 
-abbrev pub new-chooses : Kind → ℕ → Bool
-new-chooses k zero = left-chooses k
-new-chooses k (suc u) = not (left-chooses k)
+-- the kind of the new table's node: both nodes have it, where the answer fits
+abbrev pub kind-found : Table → Found → Kind
+kind-found new f = node-at new (f .new) .kind
 
--- the chooser's node, and its name bytes
 unfoldable pub chooser : Table → Table → Found → Node
-chooser new old f =
-    elim (new-chooses (node-at new (f .new) .kind) (f .turn)) [ true ↦ node-at new (f .new) | false ↦ node-at old (f .old) ]
+chooser new old f = of-chooser (kind-found new f) (f .turn) (node-at new (f .new)) (node-at old (f .old))
 
 unfoldable pub chooser-names : Table → List ℕ → List ℕ → Found → List ℕ
-chooser-names new new-names old-names f =
-    elim (new-chooses (node-at new (f .new) .kind) (f .turn)) [ true ↦ new-names | false ↦ old-names ]
+chooser-names new new-names old-names f = of-chooser (kind-found new f) (f .turn) new-names old-names
 
 -- "An answer handed in for this fits exactly if its reason is 23, both tables are well formed, nodes and turn exist, both nodes are
 -- choices of one kind and the detail is a position in the chooser's list."
 unfoldable pub found-fits : Table → List ℕ → Table → List ℕ → Found → Bool
 found-fits new new-names old old-names f =
     eqb (f .reason) (reason (mismatch.Label (f .detail))) && well-formed new new-names && well-formed old old-names
-    && ltb (f .new) (new .count) && ltb (f .old) (old .count) && ltb (f .turn) 2 && is-choice (node-at new (f .new) .kind)
-    && eqb (kind-number (node-at new (f .new) .kind)) (kind-number (node-at old (f .old) .kind))
+    && ltb (f .new) (new .count) && ltb (f .old) (old .count) && ltb (f .turn) turns-most && is-choice (kind-found new f)
+    && eqb (kind-number (kind-found new f)) (kind-number (node-at old (f .old) .kind))
     && ltb (f .detail) (label-count (chooser new old f))
 
 -- "the missing label is handed back as a part of the chooser's name bytes .. If it does not fit, the part is empty."

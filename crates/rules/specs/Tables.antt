@@ -1,5 +1,5 @@
--- Document 01, "The table": what a table says. Nodes are read only through the functions below, so room that a node's kind or the
--- counts leave unused is never read.
+-- Document 01, "The table": what a table says. Whatever is read of a node is its kind, or one of the functions below, so room that a
+-- node's kind or the counts leave unused is never read.
 -- Assumes nothing.
 use mathlib.Core.Bool.{Bool, true, false}
 use mathlib.Core.List.{List, []}
@@ -7,7 +7,7 @@ use mathlib.Core.Path.{_≡_}
 use Prim.Native.Nat.{ℕ, _<_}
 use lib.ListN.{getD, replicate}
 use Rattle.rules.specs.Basics.{part}
-use Rattle.rules.specs.Numbers.{items-most, labels-most, table-most}
+use Rattle.rules.specs.Numbers.{items-most, labels-most, table-nodes-most}
 use Rattle.table.specs.declared.Sort.the-variants.{String}
 use Rattle.table.specs.declared.Kind.{Kind}
 use Rattle.table.specs.declared.Kind.the-variants.{End, Receive, Send, Branch, Choose}
@@ -36,9 +36,9 @@ blank-node = record { kind = End; items = blank-items; «item_count» = 0; label
 
 -- "Beside a refusal the table has no nodes and start 0."
 abbrev pub blank-table : Table
-blank-table = record { nodes = replicate table-most blank-node; count = 0; start = 0 }
+blank-table = record { nodes = replicate table-nodes-most blank-node; count = 0; start = 0 }
 
--- what stands where an array has nothing
+-- What is read past the end of the array of nodes. (It has no room to fill, and is what the prover has for such a read.)
 abbrev pub no-node : Node
 no-node = record { kind = End; items = []; «item_count» = 0; labels = []; «label_count» = 0; next = 0 }
 
@@ -59,22 +59,22 @@ is-choice Send = false
 is-choice Branch = true
 is-choice Choose = true
 
--- a number that is used only where a test holds
-abbrev pub used : Bool → ℕ → ℕ
-used true n = n
-used false n = 0
+-- a number that counts only only-if a test holds
+abbrev pub only-if : Bool → ℕ → ℕ
+only-if true n = n
+only-if false n = 0
 
 -- how many items: those of a message; any other node has none
 abbrev pub item-count : Node → ℕ
-item-count x = used (is-message (x .kind)) (x .«item_count»)
+item-count x = only-if (is-message (x .kind)) (x .«item_count»)
 
 -- how many labels: those of a choice; any other node has none
 abbrev pub label-count : Node → ℕ
-label-count x = used (is-choice (x .kind)) (x .«label_count»)
+label-count x = only-if (is-choice (x .kind)) (x .«label_count»)
 
 -- the node that a message goes on to
 abbrev pub continuation : Node → ℕ
-continuation x = used (is-message (x .kind)) (x .next)
+continuation x = only-if (is-message (x .kind)) (x .next)
 
 abbrev pub item-at : Node → ℕ → Item
 item-at x i = getD (x .items) i blank-slot .item

@@ -3,10 +3,8 @@
 use mathlib.Core.Bool.{Bool, true, false}
 use mathlib.Core.List.{List, [], _∷_}
 use Prim.Native.Nat.{ℕ, zero, suc}
-use lib.Dec.{ltb}
 use lib.ListN.{length, getD}
-use Rattle.rules.specs.Basics.{first}
-use Rattle.rules.specs.Words.{blank, letter, word-byte, reserved-words, is-reserved-word}
+use Rattle.rules.specs.Words.{blank, letter, word-byte, reserved-position, reserved}
 
 -- a token: the place of its first byte, and its bytes
 pub record Token : Type 0 where
@@ -43,16 +41,12 @@ pub data Symbol : Type 0 where
   reserved-word : ℕ → Symbol
   one-byte : ℕ → Symbol
 
--- which reserved word, their count where it is none
-abbrev pub reserved-position : List ℕ → ℕ
-reserved-position w = first (is-reserved-word w) (length reserved-words)
-
 unfoldable pub symbol : Token → Symbol
 symbol t =
     elim (letter (getD (t .spelled) 0 0)) [
       | false ↦ one-byte (getD (t .spelled) 0 0)
       | true ↦
-          elim (ltb (reserved-position (t .spelled)) (length reserved-words)) [
+          elim (reserved (t .spelled)) [
             | true ↦ reserved-word (reserved-position (t .spelled))
             | false ↦ word t
           ]

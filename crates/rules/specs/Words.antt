@@ -5,7 +5,7 @@ use mathlib.Core.List.{List, [], _∷_}
 use Prim.Native.Nat.{ℕ}
 use lib.Dec.{eqb, leb, ltb}
 use lib.ListN.{length, getD}
-use Rattle.rules.specs.Basics.{bytes, same, some-below}
+use Rattle.rules.specs.Basics.{bytes, same, first}
 
 -- "Blank bytes are space, tab, LF and CR."
 unfoldable pub blank : ℕ → Bool
@@ -36,12 +36,12 @@ is-word (b ∷ s) = letter b && word-bytes s && leb (length (b ∷ s)) word-most
 abbrev pub reserved-words : List (List ℕ)
 reserved-words = bytes "end" ∷ bytes "string" ∷ bytes "float" ∷ bytes "boolean" ∷ bytes "void" ∷ []
 
--- whether w is reserved word i
-abbrev pub is-reserved-word : List ℕ → ℕ → Bool
-is-reserved-word w i = same w (getD reserved-words i [])
+-- which of them w is; their count where it is none
+unfoldable pub reserved-position : List ℕ → ℕ
+reserved-position w = first (length reserved-words) (λ i. same w (getD reserved-words i []))
 
 unfoldable pub reserved : List ℕ → Bool
-reserved w = some-below (length reserved-words) (is-reserved-word w)
+reserved w = ltb (reserved-position w) (length reserved-words)
 
 -- "never a label or a definition's name": what may be one
 unfoldable pub may-name : List ℕ → Bool

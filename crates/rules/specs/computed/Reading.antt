@@ -9,10 +9,10 @@ use lib.Dec.{eqb, leb, ltb}
 use lib.ListN.{length}
 use Rattle.rules.specs.Words.{word-most}
 use Rattle.rules.specs.Tokens.{Token, Symbol, word, reserved-word, one-byte, symbol, tokens}
-use Rattle.rules.specs.Notation.{Way, into, out, Ty, ended, name, message, choice, Items, no-items, sort, session, Labels, last-label, label, Text, last-definition, definition, opening, closing, sign}
-use Rattle.rules.specs.Numbers.{text-most, definitions-most, nodes-most, labels-most, items-most, brackets-most}
+use Rattle.rules.specs.Notation.{Way, into, out, Ty, ended, name, message, choice, Items, no-items, sort, session, Labels, last-label, label, Text, last-definition, definition, end-position, sort-position, opening, closing, sign}
+use Rattle.rules.specs.Numbers.{text-most, definitions-most, text-nodes-most, labels-most, items-most, brackets-most}
 use Rattle.rules.specs.Numbering.{Lead, to-node, to-name, to-nothing, definition-leads, follow, definition-count, table-of}
-use Rattle.rules.specs.Refusals.{Begins, a-definition, a-label, an-item, neither, Seen, unseen, seen-after, innermost, opens, begins-node, among, used-names, defined-names}
+use Rattle.rules.specs.Refusals.{Begins, a-definition, a-label, an-item, nothing-new, Seen, unseen, seen-after, innermost, opens, begins-node, among, used-names, defined-names}
 use Rattle.rules.specs.Refusals as refusal
 use Rattle.rules.specs.Replies.{made, refused}
 use Rattle.table.specs.declared.Sort.{Sort}
@@ -44,15 +44,15 @@ expect s (t ∷ ts) f = elim (is-sign (symbol t) s) [ true ↦ f ts | false ↦ 
 -- the sort that a reserved word is
 abbrev pub sort-of : ℕ → Option Sort
 sort-of i =
-    elim (eqb i 1) [
+    elim (eqb i (sort-position String)) [
       | true ↦ some String
       | false ↦
-          elim (eqb i 2) [
+          elim (eqb i (sort-position Float)) [
             | true ↦ some Float
             | false ↦
-                elim (eqb i 3) [
+                elim (eqb i (sort-position Boolean)) [
                   | true ↦ some Boolean
-                  | false ↦ elim (eqb i 4) [ true ↦ some Void | false ↦ none ]
+                  | false ↦ elim (eqb i (sort-position Void)) [ true ↦ some Void | false ↦ none ]
                 ]
           ]
     ]
@@ -132,7 +132,7 @@ module _ (r : Readers) where
   type-with (t ∷ ts) =
       elim (symbol t) [
         | word w ↦ got (name w) ts
-        | reserved-word i ↦ elim (eqb i 0) [ true ↦ got ended ts | false ↦ stuck (t ∷ ts) ]
+        | reserved-word i ↦ elim (eqb i end-position) [ true ↦ got ended ts | false ↦ stuck (t ∷ ts) ]
         | one-byte b ↦
             elim (eqb b (code "?")) [
               | true ↦ message-with into ts
@@ -177,13 +177,13 @@ abbrev pub one-more : Seen → Token → Begins → Bool
 one-more z t a-definition = leb definitions-most (length (z .names))
 one-more z t a-label = leb labels-most (length (innermost (z .brackets)))
 one-more z t an-item = leb items-most (length (innermost (z .brackets)))
-one-more z t neither = false
+one-more z t nothing-new = false
 
 abbrev pub again : Seen → Token → Begins → Option ℕ
 again z t a-definition = elim (among (z .names) (t .spelled)) [ true ↦ some refusal.name-twice | false ↦ none ]
 again z t a-label = elim (among (innermost (z .brackets)) (t .spelled)) [ true ↦ some refusal.label-twice | false ↦ none ]
 again z t an-item = none
-again z t neither = none
+again z t nothing-new = none
 
 unfoldable pub token-fault : Seen → Token → Option ℕ
 token-fault z t =
@@ -193,7 +193,7 @@ token-fault z t =
           elim (opens t && leb brackets-most (length (z .brackets))) [
             | true ↦ some refusal.bracket-too-many
             | false ↦
-                elim (begins-node t && leb nodes-most (z .nodes) || one-more z t (z .next)) [
+                elim (begins-node t && leb text-nodes-most (z .nodes) || one-more z t (z .next)) [
                   | true ↦ some refusal.one-too-many
                   | false ↦ again z t (z .next)
                 ]

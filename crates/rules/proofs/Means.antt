@@ -1,0 +1,58 @@
+-- What a reply means: a yes that new may replace old, a no that it may not; and likewise for compatible, through the dual.
+-- Assumes nothing.
+use mathlib.Core.Bool.{Bool, true, false}
+use mathlib.Core.List.{List}
+use mathlib.Core.Option.{some}
+use mathlib.Core.Path.{_≡_, refl, sym, ap, subst}
+use Prim.Native.Nat.{ℕ}
+use lib.Dec.{ltb}
+use Rattle.rules.proofs.OneCompatible.{made-not-refused}
+use Rattle.rules.proofs.OneLine.{yes-means, no-means}
+use Rattle.rules.proofs.Smallest.{closed-no-mismatch}
+use Rattle.rules.specs.Dual.{dual, dual-count, hands-over}
+use Rattle.rules.specs.Formed.{well-formed}
+use Rattle.rules.specs.Numbers.{table-nodes-most}
+use Rattle.rules.specs.Refusals.{dual-too-large, not-well-formed}
+use Rattle.rules.specs.Replace.{MayReplace, Compatible}
+use Rattle.rules.specs.Replies.{Areas, AsksCompatible, then-verdict, Replaces, dual-reply, made, refused}
+use Rattle.table.specs.declared.Table.{Table}
+use Rattle.table.specs.declared.answers.Found.{Found}
+use Rattle.table.specs.declared.answers.Made.{Made}
+use Rattle.table.specs.declared.answers.Verdict.{Verdict}
+use Rattle.table.specs.declared.answers.Verdict.the-variants as the
+
+module _ {new : Table} {new-names : List ℕ} {old : Table} {old-names : List ℕ} {before after : Areas} where
+  pub yes-may-replace : {c : ℕ} → Replaces new new-names old old-names before after (the.Yes c) → MayReplace new new-names old old-names
+  yes-may-replace r = let Y = yes-means r .1 in record { set = Y .set; closed = Y .smallest .closed }
+
+  pub no-may-not-replace :
+      {f : Found} → Replaces new new-names old old-names before after (the.No f) → MayReplace new new-names old old-names → ⊥
+  no-may-not-replace r m = let X = no-means r .1 in X .wrong (closed-no-mismatch (m .closed) (X .run) (X .end) (X .runs))
+
+-- a dual that is handed back is the dual
+pub made-dual : (t : Table) (names : List ℕ) (u : Table) → dual-reply t names ≡ made u → u ≡ dual t
+unfolding dual-reply
+made-dual t names u e = go (well-formed t names) (ltb table-nodes-most (dual-count (hands-over t) (t .count))) e
+  where
+    go :
+        (b c : Bool)
+        → elim b as (λ z. Made) [
+          | false ↦ refused not-well-formed 1
+          | true ↦ elim c as (λ z. Made) [ true ↦ refused dual-too-large (t .count) | false ↦ made (dual t) ]
+        ] ≡ made u
+        → u ≡ dual t
+    go false c e = absurd (made-not-refused (sym e))
+    go true true e = absurd (made-not-refused (sym e))
+    go true false e = ap (λ (m : Made). m .table) (sym e)
+
+module _ {new : Table} {new-names : List ℕ} {other : Table} {other-names : List ℕ} {before after : Areas} where
+  pub yes-compatible :
+      {m : Made} {c : ℕ} → AsksCompatible new new-names other other-names before after m (some (the.Yes c)) → Compatible new new-names other other-names
+  yes-compatible (then-verdict {t} e r) =
+      subst (λ (d : Table). MayReplace new new-names d other-names) (made-dual other other-names t e) (yes-may-replace r)
+
+  pub no-not-compatible :
+      {m : Made} {f : Found} → AsksCompatible new new-names other other-names before after m (some (the.No f))
+      → Compatible new new-names other other-names → ⊥
+  no-not-compatible (then-verdict {t} e r) k =
+      no-may-not-replace r (subst (λ (d : Table). MayReplace new new-names d other-names) (sym (made-dual other other-names t e)) k)
