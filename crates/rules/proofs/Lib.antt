@@ -12,6 +12,7 @@ pub mod Places
 pub mod Order
 pub mod Growing
 pub mod Smallest
+pub mod Names
 pub mod OneTree
 pub mod OneReading
 pub mod OneVerdict
