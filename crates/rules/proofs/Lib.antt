@@ -13,6 +13,7 @@ pub mod Order
 pub mod Growing
 pub mod Smallest
 pub mod Names
+pub mod Refusals
 pub mod OneTree
 pub mod OneReading
 pub mod OneVerdict

@@ -179,26 +179,27 @@ one-more z t a-label = leb labels-most (length (innermost (z .brackets)))
 one-more z t an-item = leb items-most (length (innermost (z .brackets)))
 one-more z t nothing-new = false
 
+abbrev pub if-so : Bool → ℕ → Option ℕ
+if-so true n = some n
+if-so false n = none
+
 abbrev pub again : Seen → Token → Begins → Option ℕ
-again z t a-definition = elim (among (z .names) (t .spelled)) [ true ↦ some refusal.name-twice | false ↦ none ]
-again z t a-label = elim (among (innermost (z .brackets)) (t .spelled)) [ true ↦ some refusal.label-twice | false ↦ none ]
+again z t a-definition = if-so (among (z .names) (t .spelled)) refusal.name-twice
+again z t a-label = if-so (among (innermost (z .brackets)) (t .spelled)) refusal.label-twice
 again z t an-item = none
 again z t nothing-new = none
 
+-- the first of 3, 4 and 5 whose test passes, and else what comes behind
+abbrev pub lowest : Bool → Bool → Bool → Option ℕ → Option ℕ
+lowest true b c o = some refusal.word-too-long
+lowest false true c o = some refusal.bracket-too-many
+lowest false false true o = some refusal.one-too-many
+lowest false false false o = o
+
 unfoldable pub token-fault : Seen → Token → Option ℕ
 token-fault z t =
-    elim (ltb word-most (length (t .spelled))) [
-      | true ↦ some refusal.word-too-long
-      | false ↦
-          elim (opens t && leb brackets-most (length (z .brackets))) [
-            | true ↦ some refusal.bracket-too-many
-            | false ↦
-                elim (begins-node t && leb text-nodes-most (z .nodes) || one-more z t (z .next)) [
-                  | true ↦ some refusal.one-too-many
-                  | false ↦ again z t (z .next)
-                ]
-          ]
-    ]
+    lowest (ltb word-most (length (t .spelled))) (opens t && leb brackets-most (length (z .brackets)))
+    (begins-node t && leb text-nodes-most (z .nodes) || one-more z t (z .next)) (again z t (z .next))
 
 -- the refusal at the first of k tokens that has one
 unfoldable pub walk : ℕ → Seen → List Token → Option Made
