@@ -59,7 +59,7 @@ is-choice Send = false
 is-choice Branch = true
 is-choice Choose = true
 
--- a number that counts only only-if a test holds
+-- a number that counts only where a test holds
 abbrev pub only-if : Bool → ℕ → ℕ
 only-if true n = n
 only-if false n = 0
