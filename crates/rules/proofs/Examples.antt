@@ -1,6 +1,6 @@
 -- Worked examples of the definitions, beside the starred rows: the session that hands itself over, and the missing label.
 -- Assumes nothing.
-use mathlib.Core.List.{List, [], _∷_, _++_}
+use mathlib.Core.List.{List, [], _∷_}
 use mathlib.Core.Path.{_≡_, refl}
 use Prim.Native.Nat.{ℕ}
 use Prim.Native.String.{String}

@@ -2,24 +2,24 @@
 -- named example and with the demand that shuts it out.
 -- Assumes nothing.
 use mathlib.Core.Bool.{Bool, true, false, false≢true}
-use mathlib.Core.List.{List, [], _∷_, _++_}
-use mathlib.Core.Logic.{_⊎_, inl, inr}
-use mathlib.Core.Option.{none, some}
+use mathlib.Core.List.{List, [], _∷_}
+use mathlib.Core.Logic.{inl}
+use mathlib.Core.Option.{Option·none-ne-some, Option·some-injective}
 use mathlib.Core.Path.{_≡_, refl, sym, ap, ap₂, _∙_}
-use Prim.Native.Nat.{ℕ, zero, suc, _<_, _≤_}
+use Prim.Native.Nat.{ℕ, _≤_}
 use Prim.Native.String.{String}
 use native.Mathlib.Omega.{arith}
-use lib.ListN.{length, getD, take, drop, replicate}
+use lib.ListN.{length, getD, take, replicate}
 use Rattle.rules.proofs.Computes.{computes}
-use Rattle.rules.proofs.OneLine.{yes-means, no-means, steps-run}
+use Rattle.rules.proofs.Replies.{yes-means, no-means, steps-run}
 use Rattle.rules.proofs.Pairs.{same-pair-true}
 use Rattle.rules.proofs.Smallest.{closed-no-mismatch}
 use Rattle.rules.proofs.Starred.{R, N, P, Q}
 use Rattle.rules.specs.Basics.{bytes}
-use Rattle.rules.specs.Pairs.{Pair, Step, IsMismatch, starts}
+use Rattle.rules.specs.Pairs.{Pair, IsMismatch, starts}
 use Rattle.rules.specs.Replace.{Closed}
-use Rattle.rules.specs.Replies.{Areas, Replaces, SaysYes, SaysNo, new-not-formed, old-not-formed, marks-short, path-short, scratch-short, mark, count-marks}
-use Rattle.rules.specs.Runs.{Run, Leads}
+use Rattle.rules.specs.Replies.{Areas, Replaces, SaysNo, new-not-formed, old-not-formed, marks-short, path-short, scratch-short, mark}
+use Rattle.rules.specs.Runs.{Run}
 use Rattle.rules.specs.computed.Line.{areas-for}
 use Rattle.rules.specs.computed.Reading.{reading}
 use Rattle.rules.specs.computed.Verdict.{same-pair}
@@ -35,12 +35,6 @@ table s = reading (bytes s) .table
 -- the replies that the promise allows for two texts
 abbrev pub Allowed : String → String → Areas → Areas → Verdict → Type 0
 Allowed new old before after v = Replaces (table new) (bytes new) (table old) (bytes old) before after v
-
-none-some : {p : Pair} → none ≡ some p → ⊥
-none-some d = let z : _≡_ {A = ℕ} 0 1 = cc in omega arith
-
-some-one : {p q : Pair} → some p ≡ some q → p ≡ q
-some-one d = cc
 
 -- One that refuses everything: demand 2. R and R are well formed, and the areas have the published sizes.
 pub refusing-everything : (n p : ℕ) (after : Areas) → Allowed R R (areas-for (table R) (table R)) after (the.Refused n p) → ⊥
@@ -95,7 +89,7 @@ no-path f after e r = by-run (X .run) refl
     by-run (s ∷ run) q =
         let h : s ≡ 7 = ap (λ (l : List ℕ). getD l 0 0) (rw q at (sym (X .path) ∙ e)) in
         let S = rw (q, h) at (X .runs) in
-        none-some (S .1 .leads)
+        Option·none-ne-some _ (S .1 .leads)
 
 -- One whose first step is real and whose later steps are filler: demand 3. N against R goes 0, 4; its step 0 leads to a message whose only
 -- item is a sort, so that there is no step 0 from there.
@@ -106,8 +100,8 @@ filler-steps f after e q r =
     let X = no-means r .1 in
     let run : 0 ∷ 0 ∷ [] ≡ X .run = sym (ap₂ take e q) ∙ steps-run X in
     let u = rw (← run) at (X .runs) in
-    let first : record { turn = 0; new = 1; old = 1 } ≡ u .0 = some-one (u .1 .leads) in
-    none-some (rw (← first) at (u .2 .1 .leads))
+    let first : record { turn = 0; new = 1; old = 1 } ≡ u .0 = Option·some-injective _ _ (u .1 .leads) in
+    Option·none-ne-some _ (rw (← first) at (u .2 .1 .leads))
 
 -- One whose mark or step count is invented: demands 2 and 3. `A = end .` against itself has one mark, and Q against P one step.
 abbrev pub E : String
@@ -122,7 +116,7 @@ only-starts-closed =
     record {
       holds-starts = refl;
       no-mismatch = λ p e. rw (same-pair-true p _ e);
-      all-steps = λ p q s e S. absurd (none-some (rw (same-pair-true p _ e) at (S .leads)));
+      all-steps = λ p q s e S. absurd (Option·none-ne-some q (rw (same-pair-true p _ e) at (S .leads)));
     }
 
 -- the first two of a list that is at least that long

@@ -14,6 +14,7 @@ pub mod Growing
 pub mod Smallest
 pub mod Names
 pub mod Refusals
+pub mod Replies
 pub mod OneTree
 pub mod OneReading
 pub mod OneVerdict

@@ -3,11 +3,10 @@
 use mathlib.Core.Bool.{Bool, true, false}
 use mathlib.Core.List.{List}
 use mathlib.Core.Option.{some}
-use mathlib.Core.Path.{_≡_, refl, sym, ap, subst}
+use mathlib.Core.Path.{_≡_, sym, ap, subst}
 use Prim.Native.Nat.{ℕ}
 use lib.Dec.{ltb}
-use Rattle.rules.proofs.OneCompatible.{made-not-refused}
-use Rattle.rules.proofs.OneLine.{yes-means, no-means}
+use Rattle.rules.proofs.Replies.{made-not-refused, yes-means, no-means}
 use Rattle.rules.proofs.Smallest.{closed-no-mismatch}
 use Rattle.rules.specs.Dual.{dual, dual-count, hands-over}
 use Rattle.rules.specs.Formed.{well-formed}
@@ -18,7 +17,6 @@ use Rattle.rules.specs.Replies.{Areas, AsksCompatible, then-verdict, Rep
 use Rattle.table.specs.declared.Table.{Table}
 use Rattle.table.specs.declared.answers.Found.{Found}
 use Rattle.table.specs.declared.answers.Made.{Made}
-use Rattle.table.specs.declared.answers.Verdict.{Verdict}
 use Rattle.table.specs.declared.answers.Verdict.the-variants as the
 
 module _ {new : Table} {new-names : List ℕ} {old : Table} {old-names : List ℕ} {before after : Areas} where

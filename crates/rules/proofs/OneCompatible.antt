@@ -1,23 +1,15 @@
 -- Two replies that the two calls of "compatible" allow coincide: the first call's is a function, the second's is one by `one-verdict`.
 -- Assumes nothing.
 use mathlib.Core.List.{List}
-use mathlib.Core.Option.{Option, none, some}
+use mathlib.Core.Option.{Option, some}
 use mathlib.Core.Path.{_≡_, refl, sym, ap, _∙_}
 use Prim.Native.Nat.{ℕ}
-use native.Mathlib.Omega.{arith}
 use Rattle.rules.proofs.OneVerdict.{one-verdict}
-use Rattle.rules.specs.Replies.{Areas, AsksCompatible, no-dual, then-verdict, made, refused, Replaces}
+use Rattle.rules.proofs.Replies.{made-not-refused}
+use Rattle.rules.specs.Replies.{Areas, AsksCompatible, no-dual, then-verdict}
 use Rattle.table.specs.declared.Table.{Table}
-use Rattle.table.specs.declared.answers.Answer.{Answer}
-use Rattle.table.specs.declared.answers.Answer.the-variants.{Accepted, Refused}
 use Rattle.table.specs.declared.answers.Made.{Made}
 use Rattle.table.specs.declared.answers.Verdict.{Verdict}
-
-pub made-not-refused : {t : Table} {n p : ℕ} → made t ≡ refused n p → ⊥
-made-not-refused {t} {n} {p} e = apart (ap (λ (m : Made). m .answer) e)
-  where
-    apart : Accepted ≡ Refused n p → ⊥
-    apart q = let z : _≡_ {A = ℕ} 0 1 = cc in omega arith
 
 module _ (new : Table) (new-names : List ℕ) (other : Table) (other-names : List ℕ) (before after after′ : Areas) where
   pub one-compatible :

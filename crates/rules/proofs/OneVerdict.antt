@@ -16,7 +16,7 @@ use Rattle.rules.proofs.Places.{pair-at, pair-at-within, place-pair-at}
 use Rattle.rules.proofs.Runs.{leads-one}
 use Rattle.rules.proofs.Smallest.{smallest-unique, closed-no-mismatch}
 use Rattle.rules.specs.Formed.{well-formed}
-use Rattle.rules.specs.Pairs.{Pair, starts}
+use Rattle.rules.specs.Pairs.{starts}
 use Rattle.rules.specs.Refusals.{not-well-formed, area-too-short}
 use Rattle.rules.specs.Runs.{Before}
 use Rattle.rules.specs.Replies.{Areas, NoRefusal, SaysYes, SaysNo, Replaces, new-not-formed, old-not-formed, marks-short, path-short, scratch-short, says-yes, says-no, pair-count, scratch-size, mark, count-marks}

@@ -1,7 +1,7 @@
 -- The place of a pair's mark: each pair of the tables has its own, and each place is a pair's. A place is three digits, turn, new and old,
 -- to the bases 2, n and m.
 -- Assumes nothing.
-use mathlib.Core.Path.{_≡_, sym, ap, _∙_}
+use mathlib.Core.Path.{_≡_, _∙_}
 use Prim.Native.Nat.{ℕ, _<_, _+_, _*_, _/_, _%_}
 use native.Mathlib.Decide.{ℕ-discrete}
 use native.Mathlib.Nat.{add-mul, div-add-mod', div-lt-iff-lt-mul, mod-lt, mul-zero, zero-mul}

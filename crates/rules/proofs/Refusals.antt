@@ -1,9 +1,9 @@
 -- The order of refusals says document 01's words, and the computed fault of a token is the lowest number of the declared ones.
 -- Assumes nothing.
 use mathlib.Core.Bool.{Bool, true, false, false≢true, _&&_, _||_}
-use mathlib.Core.Logic.{_⊎_, inl, inr}
-use mathlib.Core.Option.{Option, none, some}
-use mathlib.Core.Path.{_≡_, refl, sym, ap, _∙_}
+use mathlib.Core.Logic.{inl, inr}
+use mathlib.Core.Option.{Option, some}
+use mathlib.Core.Path.{_≡_, refl, sym, _∙_}
 use mathlib.Mathlib.Data.Bool.Basic.{and-elim-left, and-elim-right, and-intro, or-inl, or-inr}
 use Prim.Native.Nat.{ℕ, _<_, _≤_}
 use native.Mathlib.Decide.{decLt}
@@ -11,8 +11,8 @@ use native.Mathlib.Omega.{arith}
 use lib.Dec.{leb, ltb}
 use lib.ListN.{length}
 use borrow.Author.Tests.{le-leb, lt-leb, leb-true, ltb-true, lt-ltb}
-use Rattle.rules.specs.Numbers.{brackets-most, definitions-most, text-nodes-most, labels-most, items-most}
-use Rattle.rules.specs.Refusals.{GoesFirst, group, text-too-long, unexpected, word-too-long, bracket-too-many, one-too-many, name-twice, label-twice, never-defined, leads-round, Begins, a-definition, a-label, an-item, nothing-new, Seen, TokenFault, long-word, open-bracket, definition-more, node-more, label-more, item-more, same-label, same-name, opens, begins-node, among, innermost}
+use Rattle.rules.specs.Numbers.{brackets-most, text-nodes-most}
+use Rattle.rules.specs.Refusals.{GoesFirst, group, text-too-long, unexpected, word-too-long, bracket-too-many, one-too-many, name-twice, label-twice, never-defined, leads-round, Begins, a-definition, a-label, an-item, nothing-new, Seen, TokenFault, long-word, open-bracket, definition-more, node-more, label-more, item-more, same-label, same-name, opens, begins-node}
 use Rattle.rules.specs.Tokens.{Token}
 use Rattle.rules.specs.Words.{word-most}
 use Rattle.rules.specs.computed.Reading.{one-more, if-so, again, lowest, token-fault}

@@ -1,32 +1,32 @@
 -- Two wrong answers for each promise but a verdict's, and that the promise rules them out (a verdict's are in Hollow). On the way, the
 -- declared reading of the empty text.
 -- Assumes nothing.
-use mathlib.Core.Bool.{Bool, true, false, false≢true}
+use mathlib.Core.Bool.{true, false≢true}
 use mathlib.Core.List.{List, [], _∷_, _++_, nil≢cons, head-eq-of-cons-eq, tail-eq-of-cons-eq}
-use mathlib.Core.Logic.{_⊎_, inl, inr}
-use mathlib.Core.Option.{Option, none, some}
+use mathlib.Core.Logic.{inl, inr}
+use mathlib.Core.Option.{Option, some}
 use mathlib.Core.Path.{_≡_, refl, sym, ap, _∙_}
-use Prim.Native.Nat.{ℕ, zero, suc, _<_}
+use Prim.Native.Nat.{ℕ}
 use Prim.Native.String.{String}
 use native.Mathlib.Omega.{arith}
-use lib.ListN.{length, take}
+use lib.ListN.{take}
 use Rattle.rules.proofs.Computes.{computes}
 use Rattle.rules.proofs.Examples.{A}
 use Rattle.rules.proofs.Hollow.{table, E}
-use Rattle.rules.proofs.OneCompatible.{made-not-refused}
-use Rattle.rules.proofs.OneLine.{one-line, refused-one}
+use Rattle.rules.proofs.OneLine.{one-line}
 use Rattle.rules.proofs.OneReading.{one-reading}
 use Rattle.rules.proofs.OneTree.{one-tree}
+use Rattle.rules.proofs.Replies.{made-not-refused, refused-one}
 use Rattle.rules.proofs.Starred.{R}
 use Rattle.rules.specs.Basics.{bytes}
 use Rattle.rules.specs.Formed.{well-formed}
 use Rattle.rules.specs.Line.{Prints, first-refused, second-refused, yes, no, line, fields}
-use Rattle.rules.specs.Notation.{Ty, ended, name, Text, last-definition, definition, Writes, write-text}
+use Rattle.rules.specs.Notation.{ended, name, Text, last-definition, definition, Writes, write-text}
 use Rattle.rules.specs.Numbering.{to-nothing, definition-leads}
-use Rattle.rules.specs.Refusals.{Fault, long-text, no-text-has, none-may-end, at-token, Seen, TokenFault, long-word, open-bracket, definition-more, node-more, label-more, item-more, same-label, same-name, undefined-name, round-name, GoesFirst, Could, Stands, OneOf, unexpected, never-defined, group, used-names}
+use Rattle.rules.specs.Refusals.{Fault, long-text, no-text-has, none-may-end, at-token, Seen, TokenFault, long-word, open-bracket, definition-more, node-more, label-more, item-more, same-label, same-name, undefined-name, round-name, GoesFirst, Stands, OneOf, unexpected, never-defined, group, used-names}
 use Rattle.rules.specs.Replies.{Reads, accepts, refuses, made, refused, dual-reply, Areas, AsksCompatible, no-dual, then-verdict}
 use Rattle.rules.specs.Tables.{blank-table, node-at, item-at}
-use Rattle.rules.specs.Tokens.{Token, Symbol, tokens}
+use Rattle.rules.specs.Tokens.{Token, tokens}
 use Rattle.table.specs.declared.Item.the-variants.{Session}
 use Rattle.table.specs.declared.Table.{Table}
 use Rattle.table.specs.declared.answers.Made.{Made}

@@ -13,7 +13,7 @@ use borrow.Author.Tests.{eqb-true, leb-true, leb-false, ltb-true}
 use Rattle.rules.specs.Basics.{first}
 use Rattle.rules.specs.Numbers.{labels-most}
 use Rattle.rules.specs.Tables.{node-at, item-count, item-at, label-count, label-at, spelling-at, continuation}
-use Rattle.rules.specs.Pairs.{Pair, Onward, Step, reason, or-else, unless, kinds-differ, counts-differ, item-differs, position, lacks, label-lacking, by-chooser, mismatch-of, mismatch-at, onto, nowhere, exchanged, continuation-step, into-item, message-step, choice-step, step-by, step-of, step-at, landed, left-in, right-in, turn-after, turns-most}
+use Rattle.rules.specs.Pairs.{Pair, Onward, Step, reason, or-else, unless, kinds-differ, counts-differ, item-differs, position, lacks, label-lacking, by-chooser, mismatch-of, mismatch-at, onto, nowhere, exchanged, continuation-step, into-item, message-step, choice-step, step-by, step-of, step-at, landed, turn-after, turns-most}
 use Rattle.rules.proofs.Basics.{first-found}
 use Rattle.rules.proofs.Formed.{FormedMessage, FormedChoice, FormedNode, WellFormed}
 use Rattle.table.specs.declared.Kind.{Kind}

@@ -1,6 +1,6 @@
 -- Equal up to unused room is an equivalence, for any counts whatever.
 -- Assumes nothing.
-use mathlib.Core.Path.{_≡_, refl, sym, _∙_}
+use mathlib.Core.Path.{refl, sym, _∙_}
 use native.Mathlib.Omega.{arith}
 use Rattle.rules.specs.Tables.{SameNode, SameTable, node-at}
 use Rattle.table.specs.declared.Node.{Node}

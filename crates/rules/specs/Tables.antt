@@ -12,7 +12,7 @@ use Rattle.table.specs.declared.Sort.the-variants.{String}
 use Rattle.table.specs.declared.Kind.{Kind}
 use Rattle.table.specs.declared.Kind.the-variants.{End, Receive, Send, Branch, Choose}
 use Rattle.table.specs.declared.Item.{Item}
-use Rattle.table.specs.declared.Item.the-variants.{OfSort, Session}
+use Rattle.table.specs.declared.Item.the-variants.{OfSort}
 use Rattle.table.specs.declared.Slot.{Slot}
 use Rattle.table.specs.declared.Label.{Label}
 use Rattle.table.specs.declared.Node.{Node}

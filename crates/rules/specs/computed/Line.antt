@@ -8,7 +8,6 @@ use Rattle.rules.specs.Replies.{Areas, pair-count, scratch-size}
 use Rattle.rules.specs.computed.Reading.{reading}
 use Rattle.rules.specs.computed.Verdict.{Reply, verdict}
 use Rattle.table.specs.declared.Table.{Table}
-use Rattle.table.specs.declared.answers.Answer.{Answer}
 use Rattle.table.specs.declared.answers.Answer.the-variants as answer
 use Rattle.table.specs.declared.answers.Made.{Made}
 use Rattle.table.specs.declared.answers.Verdict.{Verdict}

@@ -2,11 +2,11 @@
 -- Assumes nothing.
 use mathlib.Core.Bool.{Bool, true, false, _&&_}
 use mathlib.Core.List.{List, [], _∷_, _++_}
-use mathlib.Core.Option.{Option, none, some}
-use Prim.Native.Nat.{ℕ, zero, suc, _+_}
+use mathlib.Core.Option.{none, some}
+use Prim.Native.Nat.{ℕ, zero, suc}
 use lib.Dec.{eqb, ltb}
-use lib.ListN.{length, getD, take, drop}
-use Rattle.rules.specs.Basics.{listed, some-below}
+use lib.ListN.{length, getD, drop}
+use Rattle.rules.specs.Basics.{listed}
 use Rattle.rules.specs.Numbers.{labels-most}
 use Rattle.rules.specs.Refusals.{not-well-formed, area-too-short}
 use Rattle.rules.specs.Formed.{well-formed}
