@@ -1,5 +1,5 @@
 -- Laws of the words of ../specs/Basics: each test tells the fact that it tests, and the fact gives the test back.
--- `Found` says what `first` finds of every position, so that no proof opens `first` again.
+-- `FirstAt` says what `first` finds of every position, so that no proof opens `first` again.
 -- Assumes nothing.
 use mathlib.Core.Bool.{Bool, true, false, false≢true}
 use mathlib.Core.List.{List, [], _∷_}
@@ -9,10 +9,9 @@ use Prim.Native.Nat.{ℕ, zero, suc, _<_, _≤_}
 use native.Mathlib.Decide.{decLt}
 use native.Mathlib.Omega.{arith}
 use lib.Dec.{eqb}
-use lib.ListN.{length, getD}
 use borrow.Author.Count.{below-more}
 use borrow.Author.Tests.{eqb-true, eq-eqb, ltb-true, lt-ltb}
-use Rattle.rules.specs.Basics.{same, every, first, some-below, listed}
+use Rattle.rules.specs.Basics.{same, every, first, some-below}
 
 -- two tests that pass together are the same
 pub tests-same : (a b : Bool) → (a ≡ true → b ≡ true) → (b ≡ true → a ≡ true) → a ≡ b
@@ -37,31 +36,31 @@ every-all zero p f = refl
 every-all (suc n) p f = rw (every, f n (omega arith)) (every-all n p (λ i l. f i (omega arith)))
 
 -- what `first` finds: the one position with nothing before it, and the end where there is none
-pub record Found (n : ℕ) (p : ℕ → Bool) (i : ℕ) : Type 0 where
+pub record FirstAt (n : ℕ) (p : ℕ → Bool) (i : ℕ) : Type 0 where
   pub within : i ≤ n
   pub before : (j : ℕ) → j < i → p j ≡ false
   pub here : i < n → p i ≡ true
 
 -- one position more, at the front
-found-on : (p : ℕ → Bool) (n i : ℕ) → p zero ≡ false → Found n (λ j. p (suc j)) i → Found (suc n) p (suc i)
+found-on : (p : ℕ → Bool) (n i : ℕ) → p zero ≡ false → FirstAt n (λ j. p (suc j)) i → FirstAt (suc n) p (suc i)
 found-on p n i e F = record { within = omega arith; before = below; here = λ l. F .here (omega arith) }
   where
     below : (j : ℕ) → j < suc i → p j ≡ false
     below zero l = e
     below (suc j) l = F .before j (omega arith)
 
-pub first-found : (n : ℕ) (p : ℕ → Bool) → Found n p (first n p)
+pub first-found : (n : ℕ) (p : ℕ → Bool) → FirstAt n p (first n p)
 unfolding first
 first-found zero p = record { within = omega arith; before = λ j l. absurd (omega arith); here = λ l. absurd (omega arith) }
 first-found (suc n) p = go (p zero) refl (first-found n (λ j. p (suc j)))
   where
     go :
-        (b : Bool) → p zero ≡ b → Found n (λ j. p (suc j)) (first n (λ j. p (suc j)))
-        → Found (suc n) p (elim b as (λ b. ℕ) [ true ↦ zero | false ↦ suc (first n (λ i. p (suc i))) ])
+        (b : Bool) → p zero ≡ b → FirstAt n (λ j. p (suc j)) (first n (λ j. p (suc j)))
+        → FirstAt (suc n) p (elim b as (λ b. ℕ) [ true ↦ zero | false ↦ suc (first n (λ i. p (suc i))) ])
     go true e F = record { within = omega arith; before = λ j l. absurd (omega arith); here = λ l. e }
     go false e F = found-on p n (first n (λ i. p (suc i))) e F
 
-pub found-first : (n : ℕ) (p : ℕ → Bool) (i : ℕ) → Found n p i → first n p ≡ i
+pub found-first : (n : ℕ) (p : ℕ → Bool) (i : ℕ) → FirstAt n p i → first n p ≡ i
 unfolding first
 found-first zero p zero F = refl
 found-first zero p (suc i) F = absurd (omega arith)
@@ -98,14 +97,3 @@ same-refl (x ∷ a) = rw (same, eq-eqb x x refl) (same-refl a)
 
 pub same-false : (a b : List ℕ) → (a ≡ b → ⊥) → same a b ≡ false
 same-false a b h = bool-eq-false (λ e. h (same-true a b e))
-
-pub listed-length : {A : Type 0} (n : ℕ) (f : ℕ → A) → length (listed n f) ≡ n
-unfolding listed
-listed-length zero f = refl
-listed-length (suc n) f = ap suc (listed-length n (λ i. f (suc i)))
-
-pub listed-at : {A : Type 0} (n : ℕ) (f : ℕ → A) (i : ℕ) (d : A) → i < n → getD (listed n f) i d ≡ f i
-unfolding listed
-listed-at zero f i d l = absurd (omega arith)
-listed-at (suc n) f zero d l = refl
-listed-at (suc n) f (suc i) d l = listed-at n (λ j. f (suc j)) i d (omega arith)

@@ -67,13 +67,13 @@ pub no-marks : (c : ℕ) (after : Areas) → after .marks ≡ areas-for (table R
 unfolding computes
 no-marks c after e r =
     let Y = yes-means r .1 in
-    let m = Y .marked (starts (table R) (bytes R) (table R) (bytes R)) (omega arith) (omega arith) (omega arith) in
+    let m = Y .marked (starts (table R) (table R)) (omega arith) (omega arith) (omega arith) in
     omega (arith, sym (ap (λ (l : List ℕ). getD l 0 0) e) ∙ m ∙ ap mark (Y .smallest .closed .holds-starts))
 
 abbrev pub found-areas : Areas
 found-areas = record { marks = replicate 50 7; path = replicate 50 7; scratch = replicate 100 7 }
 
-starts-fit : IsMismatch (table N) (bytes N) (table R) (bytes R) (starts (table N) (bytes N) (table R) (bytes R)) → ⊥
+starts-fit : IsMismatch (table N) (bytes N) (table R) (bytes R) (starts (table N) (table R)) → ⊥
 unfolding computes
 starts-fit w = w refl
 
@@ -108,7 +108,7 @@ abbrev pub E : String
 E = "A = end ."
 
 only-starts : Pair → Bool
-only-starts p = same-pair p (starts (table E) (bytes E) (table E) (bytes E))
+only-starts p = same-pair p (starts (table E) (table E))
 
 only-starts-closed : Closed (table E) (bytes E) (table E) (bytes E) only-starts
 unfolding computes only-starts

@@ -7,35 +7,10 @@ use mathlib.Core.Path.{_≡_, sym}
 use Prim.Native.Nat.{ℕ, _<_}
 use native.Mathlib.Decide.{decLt}
 use native.Mathlib.Omega.{arith}
-use Rattle.rules.specs.Refusals.{group, GoesFirst}
 use Rattle.rules.specs.Replies.{Reads, accepts, refuses}
 use Rattle.rules.proofs.OneTree.{one-tree}
+use Rattle.rules.proofs.Refusals.{goes-first-total}
 use Rattle.table.specs.declared.answers.Made.{Made}
-
-numbers-total : (a b : ℕ) → (a < b) ⊎ (b < a) ⊎ (a ≡ b)
-numbers-total a b =
-    elim (decLt a b) [
-      | yes h ↦ inl h
-      | no g ↦ elim (decLt b a) [ yes h ↦ inr (inl h) | no h ↦ inr (inr (omega arith)) ]
-    ]
-
-goes-first-total : (n p m q : ℕ) → GoesFirst n p m q ⊎ GoesFirst m q n p ⊎ ((n ≡ m) × (p ≡ q))
-goes-first-total n p m q =
-    elim (numbers-total (group n) (group m)) [
-      | inl h ↦ inl (inl h)
-      | inr (inl h) ↦ inr (inl (inl h))
-      | inr (inr e) ↦
-          elim (numbers-total p q) [
-            | inl h ↦ inl (inr (e, inl h))
-            | inr (inl h) ↦ inr (inl (inr (sym e, inl h)))
-            | inr (inr f) ↦
-                elim (numbers-total n m) [
-                  | inl h ↦ inl (inr (e, inr (f, h)))
-                  | inr (inl h) ↦ inr (inl (inr (sym e, inr (sym f, h))))
-                  | inr (inr g) ↦ inr (inr (g, f))
-                ]
-          ]
-    ]
 
 pub one-reading : {s : List ℕ} {m n : Made} → Reads s m → Reads s n → m ≡ n
 one-reading (accepts v h) (accepts w g) = cc (one-tree v w)

@@ -28,8 +28,8 @@ use Rattle.table.specs.declared.answers.Verdict.the-variants as the
 module _ (new : Table) (new-names : List ℕ) (old : Table) (old-names : List ℕ) where
   module _ {before after before′ after′ : Areas} where
     pub one-count :
-        {c c′ : ℕ} → NoRefusal new new-names old old-names before after → SaysYes new new-names old old-names before after c
-        → NoRefusal new new-names old old-names before′ after′ → SaysYes new new-names old old-names before′ after′ c′
+        {c c′ : ℕ} → NoRefusal new new-names old old-names before → SaysYes new new-names old old-names before after c
+        → NoRefusal new new-names old old-names before′ → SaysYes new new-names old old-names before′ after′ c′
         → (take (pair-count new old) (after .marks) ≡ take (pair-count new old) (after′ .marks)) × (c ≡ c′)
     one-count {c} {c′} F Y F′ Y′ =
         let e : take N (after .marks) ≡ take N (after′ .marks) =
@@ -39,7 +39,7 @@ module _ (new : Table) (new-names : List ℕ) (old : Table) (old-names : List �
         N : ℕ
         N = pair-count new old
 
-        long : {b a : Areas} {k : ℕ} → NoRefusal new new-names old old-names b a → SaysYes new new-names old old-names b a k → length (take N (a .marks)) ≡ N
+        long : {b a : Areas} {k : ℕ} → NoRefusal new new-names old old-names b → SaysYes new new-names old old-names b a k → length (take N (a .marks)) ≡ N
         long F Y = length-take-le N _ (omega (arith, F .marks-long, Y .size))
 
         less : {i : ℕ} → i < length (take N (after .marks)) → i < N
@@ -68,7 +68,7 @@ module _ (new : Table) (new-names : List ℕ) (old : Table) (old-names : List �
         e = by-order (before-total (X .run) (X′ .run))
 
         end : X .end ≡ X′ .end
-        end = leads-one new new-names old old-names (X′ .run) (starts new new-names old old-names) (X .end) (X′ .end) (rw e at (X .runs)) (X′ .runs)
+        end = leads-one new new-names old old-names (X′ .run) (starts new old) (X .end) (X′ .end) (rw e at (X .runs)) (X′ .runs)
 
     pub not-both :
         {c : ℕ} {f : Found} → SaysYes new new-names old old-names before after c → SaysNo new new-names old old-names before′ after′ f → ⊥
@@ -103,9 +103,9 @@ module _ (new : Table) (new-names : List ℕ) (old : Table) (old-names : List �
     -- a reply is the first refusal, or there is none
     data Settled (v : Verdict) : Type 0 where
       refuses : (k : ℕ) → stage ≡ k → k < 5 → v ≡ refusal-at k → after ≡ before → Settled v
-      answers : stage ≡ 5 → NoRefusal new new-names old old-names before after → Says v → Settled v
+      answers : stage ≡ 5 → NoRefusal new new-names old old-names before → Says v → Settled v
 
-    stage-none : NoRefusal new new-names old old-names before after → stage ≡ 5
+    stage-none : NoRefusal new new-names old old-names before → stage ≡ 5
     stage-none F = rw (F .new-formed, F .old-formed, le-ltb _ _ (F .marks-long), le-ltb _ _ (F .path-long), le-ltb _ _ (F .scratch-long))
 
     settled : {v : Verdict} → Replaces new new-names old old-names before after v → Settled v
@@ -123,7 +123,7 @@ module _ (new : Table) (new-names : List ℕ) (old : Table) (old-names : List �
   areas-equal a b c = λ i. record { marks = a i; path = b i; scratch = c i }
 
   says-one :
-      (v w : Verdict) → NoRefusal new new-names old old-names before after → NoRefusal new new-names old old-names before after′
+      (v w : Verdict) → NoRefusal new new-names old old-names before → NoRefusal new new-names old old-names before
       → Says new new-names old old-names before after v → Says new new-names old old-names before after′ w → (after ≡ after′) × (v ≡ w)
   says-one (the.Yes c) (the.Yes d) F F′ Y Y′ =
       let o = one-count new new-names old old-names F Y F′ Y′ in

@@ -1,10 +1,10 @@
 -- The order of refusals says document 01's words, and the computed fault of a token is the lowest number of the declared ones.
 -- Assumes nothing.
-use mathlib.Core.Bool.{Bool, true, false, false≢true, _&&_, _||_}
-use mathlib.Core.Logic.{inl, inr}
+use mathlib.Core.Bool.{Bool, true, false, false≢true, _&&_, _||_, and-eq-true-iff}
+use mathlib.Core.Logic.{_⊎_, inl, inr}
 use mathlib.Core.Option.{Option, some}
 use mathlib.Core.Path.{_≡_, refl, sym, _∙_}
-use mathlib.Mathlib.Data.Bool.Basic.{and-elim-left, and-elim-right, and-intro, or-inl, or-inr}
+use mathlib.Mathlib.Data.Bool.Basic.{and-intro, or-inl, or-inr}
 use Prim.Native.Nat.{ℕ, _<_, _≤_}
 use native.Mathlib.Decide.{decLt}
 use native.Mathlib.Omega.{arith}
@@ -56,6 +56,37 @@ then-undefined n p q a b = inl (omega (arith, group-middle n a b, group-late nev
 pub then-round : (p q : ℕ) → GoesFirst never-defined p leads-round q
 then-round p q = inl (omega (arith, group-late never-defined (omega arith), group-late leads-round (omega arith)))
 
+-- Of two refusals one goes first, unless they are one; and none goes before itself.
+numbers-total : (a b : ℕ) → (a < b) ⊎ (b < a) ⊎ (a ≡ b)
+numbers-total a b =
+    elim (decLt a b) [
+      | yes h ↦ inl h
+      | no g ↦ elim (decLt b a) [ yes h ↦ inr (inl h) | no h ↦ inr (inr (omega arith)) ]
+    ]
+
+pub goes-first-total : (n p m q : ℕ) → GoesFirst n p m q ⊎ GoesFirst m q n p ⊎ ((n ≡ m) × (p ≡ q))
+goes-first-total n p m q =
+    elim (numbers-total (group n) (group m)) [
+      | inl h ↦ inl (inl h)
+      | inr (inl h) ↦ inr (inl (inl h))
+      | inr (inr e) ↦
+          elim (numbers-total p q) [
+            | inl h ↦ inl (inr (e, inl h))
+            | inr (inl h) ↦ inr (inl (inr (sym e, inl h)))
+            | inr (inr f) ↦
+                elim (numbers-total n m) [
+                  | inl h ↦ inl (inr (e, inr (f, h)))
+                  | inr (inl h) ↦ inr (inl (inr (sym e, inr (sym f, h))))
+                  | inr (inr g) ↦ inr (inr (g, f))
+                ]
+          ]
+    ]
+
+pub goes-first-irreflexive : (n p : ℕ) → GoesFirst n p n p → ⊥
+goes-first-irreflexive n p (inl l) = omega arith
+goes-first-irreflexive n p (inr (e, inl l)) = omega arith
+goes-first-irreflexive n p (inr (e, inr (c, l))) = omega arith
+
 if-so-some : (b : Bool) (n m : ℕ) → if-so b n ≡ some m → (b ≡ true) × (n ≡ m)
 if-so-some true n m e = (refl, cc)
 if-so-some false n m e = let y : _≡_ {A = ℕ} 0 1 = cc in absurd (omega arith)
@@ -83,7 +114,7 @@ module _ (z : Seen) (t : Token) where
 
   five-declared :
       (b : Bool) → too-many-nodes ≡ b → (b || one-more z t (z .next)) ≡ true → TokenFault z t one-too-many
-  five-declared true e h = node-more (and-elim-left (begins-node t) (leb text-nodes-most (z .nodes)) e) (leb-true _ _ (and-elim-right (begins-node t) (leb text-nodes-most (z .nodes)) e))
+  five-declared true e h = let k = and-eq-true-iff (begins-node t) (leb text-nodes-most (z .nodes)) .0 e in node-more (k .0) (leb-true _ _ (k .1))
   five-declared false e h = more-declared (z .next) refl h
 
   again-declared : (b : Begins) (n : ℕ) → z .next ≡ b → again z t b ≡ some n → TokenFault z t n
@@ -101,14 +132,16 @@ module _ (z : Seen) (t : Token) where
           → lowest a b c (again z t (z .next)) ≡ some n → TokenFault z t n
       go true p b q c r e = let w : word-too-long ≡ n = cc in rw (← w) (long-word (ltb-true _ _ p))
       go false p true q c r e =
-          let w : bracket-too-many ≡ n = cc in rw (← w) (open-bracket (and-elim-left (opens t) (leb brackets-most (length (z .brackets))) q) (leb-true _ _ (and-elim-right (opens t) (leb brackets-most (length (z .brackets))) q)))
+          let w : bracket-too-many ≡ n = cc in
+          let h = and-eq-true-iff (opens t) (leb brackets-most (length (z .brackets))) .0 q in
+          rw (← w) (open-bracket (h .0) (leb-true _ _ (h .1)))
       go false p false q true r e =
           let w : one-too-many ≡ n = cc in rw (← w) (five-declared too-many-nodes refl r)
       go false p false q false r e = again-declared (z .next) n refl e
 
   -- .. and no declared one has a lower number.
-  abbrev Found : ℕ → Type 0
-  Found m = (n : ℕ) × (token-fault z t ≡ some n) × (n ≤ m)
+  abbrev FoundBelow : ℕ → Type 0
+  FoundBelow m = (n : ℕ) × (token-fault z t ≡ some n) × (n ≤ m)
 
   -- a test that passes, or a number behind the tests, is found unless a lower one is
   module _ (o : Option ℕ) (m : ℕ) where
@@ -129,15 +162,15 @@ module _ (z : Seen) (t : Token) where
     found-again false false true e l = (one-too-many, refl, l)
     found-again false false false e l = (m, e, omega arith)
 
-  found-more : one-more z t (z .next) ≡ true → Found one-too-many
+  found-more : one-more z t (z .next) ≡ true → FoundBelow one-too-many
   unfolding token-fault
   found-more e = found-five (again z t (z .next)) one-too-many too-long too-deep too-many (or-inr too-many-nodes _ e) (omega arith)
 
-  found-twice : (m : ℕ) → again z t (z .next) ≡ some m → one-too-many ≤ m → Found m
+  found-twice : (m : ℕ) → again z t (z .next) ≡ some m → one-too-many ≤ m → FoundBelow m
   unfolding token-fault
   found-twice m e l = found-again (again z t (z .next)) m too-long too-deep too-many e l
 
-  pub token-fault-lowest : (m : ℕ) → TokenFault z t m → Found m
+  pub token-fault-lowest : (m : ℕ) → TokenFault z t m → FoundBelow m
   unfolding token-fault
   token-fault-lowest m (long-word l) = (word-too-long, rw (lt-ltb _ _ l), omega arith)
   token-fault-lowest m (open-bracket o l) =

@@ -28,12 +28,12 @@ refused-one {n} {p} {m} {q} e = parts (ap (λ (r : Made). r .answer) e)
 module _ {new : Table} {new-names : List ℕ} {old : Table} {old-names : List ℕ} {before after : Areas} where
   pub yes-means :
       {c : ℕ} → Replaces new new-names old old-names before after (the.Yes c)
-      → NoRefusal new new-names old old-names before after × SaysYes new new-names old old-names before after c
+      → NoRefusal new new-names old old-names before × SaysYes new new-names old old-names before after c
   yes-means (says-yes F Y) = (F, Y)
 
   pub no-means :
       {f : Found} → Replaces new new-names old old-names before after (the.No f)
-      → NoRefusal new new-names old old-names before after × SaysNo new new-names old old-names before after f
+      → NoRefusal new new-names old old-names before × SaysNo new new-names old old-names before after f
   no-means (says-no F X) = (F, X)
 
   -- the steps that are printed are the run

@@ -16,6 +16,7 @@ use Rattle.rules.proofs.Hollow.{table, E}
 use Rattle.rules.proofs.OneLine.{one-line}
 use Rattle.rules.proofs.OneReading.{one-reading}
 use Rattle.rules.proofs.OneTree.{one-tree}
+use Rattle.rules.proofs.Refusals.{goes-first-irreflexive}
 use Rattle.rules.proofs.Replies.{made-not-refused, refused-one}
 use Rattle.rules.proofs.Starred.{R}
 use Rattle.rules.specs.Basics.{bytes}
@@ -65,12 +66,7 @@ pub reads-empty : Reads [] (refused unexpected 0)
 unfolding computes E-tree
 reads-empty =
     refuses (none-may-end (record { text = bytes E; tree = E-tree; writes = record { written = refl }; more = tokens (bytes E); begins = refl }) empty-no-text)
-    (λ m q f g. not-before (empty-fault f .0) (empty-fault f .1) g)
-  where
-    not-before : {m q : ℕ} → m ≡ unexpected → q ≡ 0 → GoesFirst m q unexpected 0 → ⊥
-    not-before a b (inl l) = omega (arith, ap group a)
-    not-before a b (inr (e, inl l)) = omega arith
-    not-before a b (inr (e, inr (c, l))) = omega arith
+    (λ m q f g. goes-first-irreflexive unexpected 0 (rw (empty-fault f .0, empty-fault f .1) at g))
 
 -- .. so that a program that accepts it is wrong;
 pub empty-accepted : (t : Table) → Reads [] (made t) → ⊥
@@ -158,17 +154,17 @@ pub asked-all-the-same : (before after : Areas) (m : Made) (v : Verdict) → Ask
 unfolding computes
 asked-all-the-same before after m v (then-verdict e X) = made-not-refused (sym e)
 
--- The printed line: of two refused texts the first is named; and no line lacks its line feed.
-pub second-named : {l : List ℕ} → Prints (0 ∷ []) l → l ≡ bytes "refused 2 1 0\n"
+-- The printed line: of two refused texts the first is named; and a line feed is last in every line.
+pub first-named : {l : List ℕ} → Prints (0 ∷ []) l → l ≡ bytes "refused 2 1 0\n"
 unfolding computes
-second-named r = one-line r (first-refused reads-empty)
+first-named r = one-line r (first-refused reads-empty)
 
 fed : (w ks : List ℕ) → (k : List ℕ) × (line w ks ≡ k ++ bytes "\n")
 fed w ks = (w ++ fields ks, refl)
 
-pub no-line-feed : {input l : List ℕ} → Prints input l → (k : List ℕ) × (l ≡ k ++ bytes "\n")
-no-line-feed (first-refused {n} {p} a) = fed (bytes "refused") (n ∷ 1 ∷ p ∷ [])
-no-line-feed (second-refused {n = n} {p = p} a b) = fed (bytes "refused") (n ∷ 2 ∷ p ∷ [])
-no-line-feed (yes {count = c} a b d) = fed (bytes "yes") (c ∷ [])
-no-line-feed (no {after = q} {found = f} a b d) =
+pub line-feed-last : {input l : List ℕ} → Prints input l → (k : List ℕ) × (l ≡ k ++ bytes "\n")
+line-feed-last (first-refused {n} {p} a) = fed (bytes "refused") (n ∷ 1 ∷ p ∷ [])
+line-feed-last (second-refused {n = n} {p = p} a b) = fed (bytes "refused") (n ∷ 2 ∷ p ∷ [])
+line-feed-last (yes {count = c} a b d) = fed (bytes "yes") (c ∷ [])
+line-feed-last (no {after = q} {found = f} a b d) =
     fed (bytes "no") (f .reason ∷ f .detail ∷ f .new ∷ f .old ∷ f .turn ∷ take (f .steps) (q .path))

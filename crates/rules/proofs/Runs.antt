@@ -24,7 +24,7 @@ module _ {new : Table} {new-names : List ℕ} {old : Table} {old-names : List �
   leads-snoc (a ∷ r) p L S = (L .0, L .1, leads-snoc r (L .0) (L .2) S)
 
   module _ (new-formed : WellFormed new new-names) (old-formed : WellFormed old old-names) where
-    pub starts-within : Within new old (starts new new-names old old-names)
+    pub starts-within : Within new old (starts new old)
     starts-within = record { turn-below = omega arith; new-below = new-formed .begins; old-below = old-formed .begins }
 
     pub leads-within : (r : List ℕ) (p q : Pair) → Within new old p → Leads new new-names old old-names p r q → Within new old q

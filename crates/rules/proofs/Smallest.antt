@@ -40,7 +40,7 @@ module _ {new : Table} {new-names : List ℕ} {old : Table} {old-names : List �
     closed-leads (s ∷ r) p q e L = closed-leads r (L .0) q (C .all-steps p (L .0) s e (L .1)) (L .2)
 
     pub closed-reached : (r : List ℕ) (q : Pair) → Run new new-names old old-names r q → set q ≡ true
-    closed-reached r q L = closed-leads r (starts new new-names old old-names) q (C .holds-starts) L
+    closed-reached r q L = closed-leads r (starts new old) q (C .holds-starts) L
 
     -- demand 3, after a yes: no run reaches a mismatch
     pub closed-no-mismatch :
@@ -59,7 +59,7 @@ on-some test (some p) = test p
 
 module _ (new : Table) (new-names : List ℕ) (old : Table) (old-names : List ℕ) where
   abbrev begin : Pair
-  begin = starts new new-names old old-names
+  begin = starts new old
 
   -- whether step s leads from p to a pair that passes the test
   abbrev onward : (Pair → Bool) → Pair → ℕ → Bool

@@ -76,7 +76,8 @@ abbrev pub or-zero : Option ℕ → ℕ
 or-zero none = 0
 or-zero (some k) = k
 
--- The link of a type whose first node, if it has one, is number k. More names than there are definitions are never needed.
+-- The link of a type whose first node, if it has one, is number k. More names than there are definitions are never needed
+-- (`follow-enough`, in ../proofs).
 unfoldable pub link : Text → Ty → ℕ → ℕ
 link t x k = or-zero (follow t (definition-count t) (lead x k))
 

@@ -192,11 +192,11 @@ abbrev pub landed : ℕ → Onward → Option Pair
 landed u nowhere = none
 landed u (onto l r t) = some (record { turn = turn-after t u; new = left-in u l r; old = right-in u l r })
 
-module _ (new : Table) (new-names : List ℕ) (old : Table) (old-names : List ℕ) where
-  -- "starts as (new, old), turn 0"
-  abbrev pub starts : Pair
-  starts = record { turn = 0; new = new .start; old = old .start }
+-- "starts as (new, old), turn 0"
+abbrev pub starts : Table → Table → Pair
+starts new old = record { turn = 0; new = new .start; old = old .start }
 
+module _ (new : Table) (new-names : List ℕ) (old : Table) (old-names : List ℕ) where
   -- what is asked of the left node and its name bytes, and of the right ones
   abbrev pub beside : {A : Type 0} → (Node → List ℕ → Node → List ℕ → A) → Pair → A
   beside f p =

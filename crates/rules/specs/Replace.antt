@@ -12,7 +12,7 @@ use Rattle.table.specs.declared.answers.Mismatch.the-variants.{Nothing}
 module _ (new : Table) (new-names : List ℕ) (old : Table) (old-names : List ℕ) where
   -- a set of pairs that "holds the starts and, with each pair, has no mismatch and all its steps"
   pub record Closed (set : Pair → Bool) : Type 0 where
-    pub holds-starts : set (starts new new-names old old-names) ≡ true
+    pub holds-starts : set (starts new old) ≡ true
     pub no-mismatch : (p : Pair) → set p ≡ true → mismatch-at new new-names old old-names p ≡ Nothing
     pub all-steps : (p q : Pair) (s : ℕ) → set p ≡ true → Step new new-names old old-names p s q → set q ≡ true
 

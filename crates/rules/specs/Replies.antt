@@ -84,15 +84,15 @@ count-marks (b ∷ s) = elim (eqb b 1) [ true ↦ suc (count-marks s) | false �
 abbrev pub cleared : ℕ → List ℕ → List ℕ
 cleared k a = replicate k 0 ++ drop k a
 
-module _ (new : Table) (new-names : List ℕ) (old : Table) (old-names : List ℕ) (before after : Areas) where
-  -- no refusal applies: both tables are well formed, and every area is long enough
-  pub record NoRefusal : Type 0 where
-    pub new-formed : well-formed new new-names ≡ true
-    pub old-formed : well-formed old old-names ≡ true
-    pub marks-long : pair-count new old ≤ length (before .marks)
-    pub path-long : pair-count new old ≤ length (before .path)
-    pub scratch-long : scratch-size new old ≤ length (before .scratch)
+-- no refusal applies: both tables are well formed, and every area is long enough
+pub record NoRefusal (new : Table) (new-names : List ℕ) (old : Table) (old-names : List ℕ) (before : Areas) : Type 0 where
+  pub new-formed : well-formed new new-names ≡ true
+  pub old-formed : well-formed old old-names ≡ true
+  pub marks-long : pair-count new old ≤ length (before .marks)
+  pub path-long : pair-count new old ≤ length (before .path)
+  pub scratch-long : scratch-size new old ≤ length (before .scratch)
 
+module _ (new : Table) (new-names : List ℕ) (old : Table) (old-names : List ℕ) (before after : Areas) where
   -- "After yes: reached pairs are marked 1, others 0; path untouched; the count of marks is returned." "Scratch is 0 after either."
   pub record SaysYes (count : ℕ) : Type 0 where
     pub set : Pair → Bool
@@ -146,8 +146,8 @@ module _ (new : Table) (new-names : List ℕ) (old : Table) (old-names : List �
         well-formed new new-names ≡ true → well-formed old old-names ≡ true → pair-count new old ≤ length (before .marks)
         → pair-count new old ≤ length (before .path) → length (before .scratch) < scratch-size new old → after ≡ before
         → Replaces (verdict.Refused area-too-short 3)
-    says-yes : {count : ℕ} → NoRefusal → SaysYes count → Replaces (verdict.Yes count)
-    says-no : {found : Found} → NoRefusal → SaysNo found → Replaces (verdict.No found)
+    says-yes : {count : ℕ} → NoRefusal new new-names old old-names before → SaysYes count → Replaces (verdict.Yes count)
+    says-no : {found : Found} → NoRefusal new new-names old old-names before → SaysNo found → Replaces (verdict.No found)
 
 -- "New is compatible with other .. is asked in two calls, the dual and then the verdict, each with its own refusals; marks, nodes and
 -- runs are then those of new and the dual." The first call's reply, and the second's where it is made.

@@ -16,7 +16,7 @@ module _ (new : Table) (new-names : List ℕ) (old : Table) (old-names : List �
 
   -- "A run is any finite sequence of such steps from the starts; its last pair may be a mismatch."
   abbrev pub Run : List ℕ → Pair → Type 0
-  Run r q = Leads (starts new new-names old old-names) r q
+  Run r q = Leads (starts new old) r q
 
 -- "the lower number at the first step that differs"
 abbrev pub Lower : List ℕ → List ℕ → Type 0

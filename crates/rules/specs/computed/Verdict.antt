@@ -79,8 +79,9 @@ module _ (new : Table) (new-names : List ℕ) (old : Table) (old-names : List �
       ]
 
   unfoldable pub outcome : Outcome
-  outcome = explore (suc (pair-count new old)) (record { pair = starts new new-names old old-names; run = [] } ∷ []) zero
+  outcome = explore (suc (pair-count new old)) (record { pair = starts new old; run = [] } ∷ []) zero
 
+module _ (new old : Table) where
   -- whether a place is the mark's place of an entry
   unfoldable pub marked-at : List Entry → ℕ → Bool
   marked-at [] i = false
@@ -101,10 +102,10 @@ module _ (new : Table) (new-names : List ℕ) (old : Table) (old-names : List �
   unfoldable pub settle : Outcome → Reply
   settle (all-fit es) =
       record {
-        answer = the.Yes (count-marks (marks-of new new-names old old-names es));
+        answer = the.Yes (count-marks (marks-of new old es));
         areas =
             record {
-              marks = marks-of new new-names old old-names es ++ drop (pair-count new old) (before .marks);
+              marks = marks-of new old es ++ drop (pair-count new old) (before .marks);
               path = before .path;
               scratch = cleared (scratch-size new old) (before .scratch);
             };
