@@ -5,13 +5,15 @@ use mathlib.Core.Bool.{Bool, true, false, false≢true}
 use mathlib.Core.List.{List, [], _∷_}
 use mathlib.Core.Path.{_≡_, refl, sym, ap, ap₂, _∙_}
 use mathlib.Mathlib.Data.Bool.Basic.{bool-eq-false}
-use Prim.Native.Nat.{ℕ, zero, suc, _<_, _≤_}
+use Prim.Native.Nat.{ℕ, zero, suc, _+_, _-_, _<_, _≤_}
 use native.Mathlib.Decide.{decLt}
 use native.Mathlib.Omega.{arith}
 use lib.Dec.{eqb}
+use lib.ListN.{length, getD, drop, length-drop}
+use lib.Seq.{ext-getD, take-all, length-take-le}
 use borrow.Author.Count.{below-more}
 use borrow.Author.Tests.{eqb-true, eq-eqb, ltb-true, lt-ltb}
-use Rattle.rules.specs.Basics.{same, every, first, some-below}
+use Rattle.rules.specs.Basics.{part, same, every, first, some-below}
 
 -- two tests that pass together are the same
 pub tests-same : (a b : Bool) → (a ≡ true → b ≡ true) → (b ≡ true → a ≡ true) → a ≡ b
@@ -34,6 +36,15 @@ pub every-all : (n : ℕ) (p : ℕ → Bool) → ((i : ℕ) → i < n → p i �
 unfolding every
 every-all zero p f = refl
 every-all (suc n) p f = rw (every, f n (omega arith)) (every-all n p (λ i l. f i (omega arith)))
+
+pub every-false : (n : ℕ) (p : ℕ → Bool) (i : ℕ) → i < n → p i ≡ false → every n p ≡ false
+every-false n p i l e = bool-eq-false (λ h. false≢true (sym e ∙ every-true n p h i l))
+
+-- tests that agree at each position below n agree below n
+pub every-same : (n : ℕ) (p q : ℕ → Bool) → ((i : ℕ) → i < n → p i ≡ q i) → every n p ≡ every n q
+every-same n p q f =
+    tests-same (every n p) (every n q) (λ e. every-all n q (λ i l. sym (f i l) ∙ every-true n p e i l))
+    (λ e. every-all n p (λ i l. f i l ∙ every-true n q e i l))
 
 -- what `first` finds: the one position with nothing before it, and the end where there is none
 pub record FirstAt (n : ℕ) (p : ℕ → Bool) (i : ℕ) : Type 0 where
@@ -71,6 +82,24 @@ found-first (suc n) p (suc i) F =
     (found-first n (λ j. p (suc j)) i
     (record { within = omega arith; before = λ j l. F .before (suc j) (omega arith); here = λ l. F .here (omega arith) })))
 
+-- what a loop that looks from the front has found where it stops
+pub first-here : {n : ℕ} {p : ℕ → Bool} (i : ℕ) → i < n → ((j : ℕ) → j < i → p j ≡ false) → p i ≡ true → i ≡ first n p
+first-here {n} {p} i l f e = sym (found-first n p i (record { within = omega arith; before = f; here = λ m. e }))
+
+pub first-nowhere : {n : ℕ} {p : ℕ → Bool} (i : ℕ) → i ≡ n → ((j : ℕ) → j < i → p j ≡ false) → i ≡ first n p
+first-nowhere {n} {p} i e f =
+    sym (found-first n p i (record { within = omega arith; before = f; here = λ m. absurd (omega arith) }))
+
+pub first-same : (n : ℕ) (p q : ℕ → Bool) → ((i : ℕ) → i < n → p i ≡ q i) → first n p ≡ first n q
+first-same n p q f =
+    let F = first-found n q in
+    found-first n p (first n q)
+    (record {
+      within = F .within;
+      before = λ j l. f j (omega (arith, F .within)) ∙ F .before j l;
+      here = λ l. f (first n q) l ∙ F .here l;
+    })
+
 -- a test that passes somewhere, by its position
 pub some-below-true : (n : ℕ) (p : ℕ → Bool) → some-below n p ≡ true → (i : ℕ) × (i < n) × (p i ≡ true)
 some-below-true n p e = let l = ltb-true (first n p) n e in (first n p, l, first-found n p .here l)
@@ -97,3 +126,20 @@ same-refl (x ∷ a) = rw (same, eq-eqb x x refl) (same-refl a)
 
 pub same-false : (a b : List ℕ) → (a ≡ b → ⊥) → same a b ≡ false
 same-false a b h = bool-eq-false (λ e. h (same-true a b e))
+
+-- two lists compared byte by byte
+pub same-lengths : (a b : List ℕ) → (length a ≡ length b → ⊥) → same a b ≡ false
+same-lengths a b h = same-false a b (λ e. h (ap length e))
+
+pub same-differ : (a b : List ℕ) (i : ℕ) → (getD a i 0 ≡ getD b i 0 → ⊥) → same a b ≡ false
+same-differ a b i h = same-false a b (λ e. h (ap (λ (s : List ℕ). getD s i 0) e))
+
+pub same-all : (a b : List ℕ) → length a ≡ length b → ((i : ℕ) → i < length a → getD a i 0 ≡ getD b i 0) → same a b ≡ true
+same-all a b e f = rw (ext-getD 0 a b e f) (same-refl b)
+
+-- what is left behind a position is a part
+pub part-rest : (s : List ℕ) (at : ℕ) → part s at (length s - at) ≡ drop at s
+part-rest s at = take-all (length s - at) (drop at s) (omega (arith, length-drop at s))
+
+pub part-length : (s : List ℕ) (at n : ℕ) → at + n ≤ length s → length (part s at n) ≡ n
+part-length s at n l = length-take-le n (drop at s) (omega (arith, length-drop at s))

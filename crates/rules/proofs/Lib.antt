@@ -3,6 +3,7 @@ pub mod Computes
 pub mod Starred
 pub mod Examples
 pub mod Basics
+pub mod Words
 pub mod Tables
 pub mod Formed
 pub mod Pairs
