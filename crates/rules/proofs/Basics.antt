@@ -9,7 +9,7 @@ use Prim.Native.Nat.{ℕ, zero, suc, _+_, _-_, _<_, _≤_}
 use native.Mathlib.Decide.{decLt}
 use native.Mathlib.Omega.{arith}
 use lib.Dec.{eqb}
-use lib.ListN.{length, getD, drop, length-drop}
+use lib.ListN.{length, getD, drop, length-drop, drop-of-length-le}
 use lib.Seq.{ext-getD, take-all, length-take-le}
 use borrow.Author.Count.{below-more}
 use borrow.Author.Tests.{eqb-true, eq-eqb, ltb-true, lt-ltb}
@@ -137,9 +137,12 @@ same-differ a b i h = same-false a b (λ e. h (ap (λ (s : List ℕ). getD s i 0
 pub same-all : (a b : List ℕ) → length a ≡ length b → ((i : ℕ) → i < length a → getD a i 0 ≡ getD b i 0) → same a b ≡ true
 same-all a b e f = rw (ext-getD 0 a b e f) (same-refl b)
 
--- what is left behind a position is a part
-pub part-rest : (s : List ℕ) (at : ℕ) → part s at (length s - at) ≡ drop at s
-part-rest s at = take-all (length s - at) (drop at s) (omega (arith, length-drop at s))
+-- a part that is as long as what there is, or longer, is all that there is
+pub part-cut : (s : List ℕ) (at n : ℕ) → length s ≤ at + n → part s at n ≡ drop at s
+part-cut s at n l = take-all n (drop at s) (omega (arith, length-drop at s))
+
+pub part-none : (s : List ℕ) (at n : ℕ) → length s ≤ at → part s at n ≡ []
+part-none s at n l = part-cut s at n (omega arith) ∙ drop-of-length-le s l
 
 pub part-length : (s : List ℕ) (at n : ℕ) → at + n ≤ length s → length (part s at n) ≡ n
 part-length s at n l = length-take-le n (drop at s) (omega (arith, length-drop at s))

@@ -1,7 +1,7 @@
 -- A table is well formed exactly if the record `WellFormed` holds of it: the tests of ../specs/Formed as plain facts.
 -- What a node's kind leaves unused is read as 0, so the facts hold of every kind alike.
 -- Assumes nothing.
-use mathlib.Core.Bool.{true, false, false≢true, not}
+use mathlib.Core.Bool.{true, false, false≢true, not, and-false}
 use mathlib.Core.List.{List}
 use mathlib.Core.Path.{_≡_, refl, sym, ap, _∙_}
 use mathlib.Mathlib.Data.Bool.Basic.{and-elim-left, and-elim-right, and-intro}
@@ -15,7 +15,7 @@ use Rattle.rules.specs.Words.{may-name}
 use Rattle.rules.specs.Numbers.{items-most, labels-most, table-nodes-most}
 use Rattle.rules.specs.Tables.{node-at, item-at, item-count, label-at, label-count, continuation, spelling-at, is-message, is-choice}
 use Rattle.rules.specs.Formed.{item-formed, label-formed, label-new, message-formed, choice-formed, formed-by, node-formed, well-formed}
-use Rattle.rules.proofs.Basics.{every-true, every-all, same-refl, same-false}
+use Rattle.rules.proofs.Basics.{every-true, every-all, every-false, same-refl, same-false}
 use Rattle.table.specs.declared.Kind.{Kind}
 use Rattle.table.specs.declared.Kind.the-variants.{End, Receive, Send, Branch, Choose}
 use Rattle.table.specs.declared.Item.{Item}
@@ -129,6 +129,12 @@ module _ {n : ℕ} {names : List ℕ} {x : Node} where
       go Branch e f = record { message = no-message l (ap is-message e); choice = choice-facts f }
       go Choose e f = record { message = no-message l (ap is-message e); choice = choice-facts f }
 
+-- a node is formed as its kind asks
+pub node-kind :
+    (n : ℕ) (names : List ℕ) (x : Node) (k : Kind) → x .kind ≡ k → node-formed n names x ≡ formed-by k n names x
+unfolding node-formed
+node-kind n names x k e = rw e
+
 pub formed : {t : Table} {names : List ℕ} → well-formed t names ≡ true → WellFormed t names
 unfolding well-formed
 formed {t} {names} e =
@@ -183,9 +189,22 @@ module _ {n : ℕ} {names : List ℕ} {x : Node} where
       go Branch e = choice-test (ap is-choice e) (f .choice)
       go Choose e = choice-test (ap is-choice e) (f .choice)
 
+-- the tests of a table, from those of its nodes
+module _ (t : Table) (names : List ℕ) where
+  pub nodes-formed :
+      1 ≤ t .count → t .count ≤ table-nodes-most → t .start < t .count
+      → ((i : ℕ) → i < t .count → node-formed (t .count) names (node-at t i) ≡ true) → well-formed t names ≡ true
+  unfolding well-formed
+  nodes-formed some few begins each =
+      and-intro (and-intro (and-intro (le-leb _ _ some) (le-leb _ _ few)) (lt-ltb _ _ begins))
+      (every-all (t .count) (λ i. node-formed (t .count) names (node-at t i)) each)
+
+  pub node-unformed :
+      (i : ℕ) → i < t .count → node-formed (t .count) names (node-at t i) ≡ false → well-formed t names ≡ false
+  unfolding well-formed
+  node-unformed i l e =
+      rw (every-false (t .count) (λ i. node-formed (t .count) names (node-at t i)) i l e, and-false)
+
 pub formed-true : {t : Table} {names : List ℕ} → WellFormed t names → well-formed t names ≡ true
-unfolding well-formed
 formed-true {t} {names} w =
-    and-intro
-    (and-intro (and-intro (le-leb _ _ (w .some-node)) (le-leb _ _ (w .few-nodes))) (lt-ltb _ _ (w .begins)))
-    (every-all (t .count) (λ i. node-formed (t .count) names (node-at t i)) (λ i l. node-test (w .each i l)))
+    nodes-formed t names (w .some-node) (w .few-nodes) (w .begins) (λ i l. node-test (w .each i l))

@@ -1,11 +1,15 @@
 use borrow.Author.Needs.{needs}
 use borrow.Author.Tests.{not-true, not-false}
 use mathlib.Core.Bool.{false≢true}
-use mathlib.Core.Path.{sym, ap, _∙_}
+use mathlib.Core.List.{List}
+use mathlib.Core.Path.{_≡_, sym, ap, _∙_}
 use mathlib.Mathlib.Data.Bool.Basic.{bool-eq-false}
+use Prim.Native.Nat.{ℕ, _-_}
 use native.Mathlib.Omega.{arith}
+use lib.ListN.{length, drop}
+use Rattle.rules.specs.Basics.{part}
 use Rattle.rules.specs.Words.{word-bytes}
-use Rattle.rules.proofs.Basics.{tests-same, part-rest}
+use Rattle.rules.proofs.Basics.{tests-same, part-cut}
 use Rattle.rules.proofs.Words.{word, word-true}
 use Rattle.words.proofs.is_word.Statement.{statement}
 use Rattle.words.proofs.is_word.Tie as tie
@@ -57,6 +61,8 @@ word-bytes-requires c κs = search needs
 -- src/lib.rt:60:1
 returns-4 : tie.Need-returns-4
 returns-4 c =
+    let w : List ℕ = c .before .before .before .before .before .before .before .before .args .w .now in
+    let rest : part w 1 (length w - 1) ≡ drop 1 w = part-cut w 1 (length w - 1) (omega arith) in
     c .word-bytes .ensures
     ∙ tests-same _ _
     (λ e.
@@ -65,9 +71,9 @@ returns-4 c =
       some-byte = omega arith;
       few-bytes = omega arith;
       begins = sym (c .before .before .before .is-letter .ensures) ∙ not-false _ (c .before .before .if3 .left);
-      goes-on = sym (ap word-bytes (part-rest (c .before .before .before .before .before .before .before .before .args .w .now) 1)) ∙ e;
+      goes-on = sym (ap word-bytes rest) ∙ e;
     }))
-    (λ e. ap word-bytes (part-rest (c .before .before .before .before .before .before .before .before .args .w .now) 1) ∙ word e .goes-on)
+    (λ e. ap word-bytes rest ∙ word e .goes-on)
 
 pub is-word-spec : {M : Type 1} → statement M
 is-word-spec =

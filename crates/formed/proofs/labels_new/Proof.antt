@@ -1,0 +1,59 @@
+-- `formed::labels_new` meets its contract: each label below `i` is none of those before it.
+-- Assumes nothing.
+use borrow.Author.Count.{below-more}
+use borrow.Author.Needs.{needs}
+use borrow.Author.Tests.{not-true, not-false}
+use mathlib.Core.Bool.{true}
+use mathlib.Core.Path.{_≡_, sym, _∙_}
+use Prim.Native.Nat.{ℕ, _≤_, _<_, _-_}
+use native.Mathlib.Omega.{arith}
+use Rattle.rules.specs.Formed.{label-new}
+use Rattle.rules.proofs.Basics.{every-all, every-false}
+use Rattle.formed.proofs.labels_new.Statement.{statement}
+use Rattle.formed.proofs.labels_new.Tie as tie
+
+abbrev Inv-loop : tie.InvT-loop
+Inv-loop names x count i₀ i = (i ≤ count) × ((j : ℕ) → j < i → label-new x names j ≡ true)
+
+abbrev μ-loop : tie.MeasureT-loop
+μ-loop names x count i₀ i = count - i
+
+label-count-requires : tie.Need-label-count-requires Inv-loop μ-loop
+label-count-requires c κs = search needs
+
+loop-holds : tie.Need-loop-holds Inv-loop μ-loop
+loop-holds c = (omega arith, λ j l. absurd (omega arith))
+
+label-new-requires : tie.Need-label-new-requires Inv-loop μ-loop
+label-new-requires c κs = omega arith
+
+returns : tie.Need-returns Inv-loop μ-loop
+returns c = sym (every-false _ _ _ (omega arith) (sym (c .before .label-new .ensures) ∙ not-true _ (c .if1 .taken)))
+
+add-i : tie.Need-add-i Inv-loop μ-loop
+add-i c = omega arith
+
+loop-less : tie.Need-loop-less Inv-loop μ-loop
+loop-less c = omega arith
+
+loop-again : tie.Need-loop-again Inv-loop μ-loop
+loop-again c =
+    (omega arith, below-more _ _ (c .before .before .before .loop .inv .1) (sym (c .before .label-new .ensures) ∙ not-false _ (c .if1 .left)))
+
+returns-2 : tie.Need-returns-2 Inv-loop μ-loop
+returns-2 c = sym (every-all _ _ (λ j l. c .before .loop .inv .1 j (omega arith)))
+
+pub labels-new-spec : {M : Type 1} → statement M
+labels-new-spec =
+    tie.close
+    (tie.spec
+    Inv-loop
+    μ-loop
+    label-count-requires
+    loop-holds
+    label-new-requires
+    returns
+    add-i
+    loop-less
+    loop-again
+    returns-2)
