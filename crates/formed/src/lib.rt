@@ -18,6 +18,7 @@ use words::same_bytes;
 ghost use mathlib.Core.Path.{_≡_};
 ghost use Prim.Native.Nat.{_≤_, _<_};
 ghost use Rattle.rules.specs.Basics.{every};
+ghost use Rattle.rules.specs.Numbers.{items-most, labels-most};
 ghost use Rattle.rules.specs.Tables.{item-at, item-count, label-at, label-count};
 ghost use Rattle.rules.specs.Formed.{item-formed, label-formed, label-new, message-formed, choice-formed, node-formed, well-formed};
 
@@ -33,7 +34,7 @@ fn item_formed(n: u8, a: Item) -> bool
 }
 
 fn items_formed(n: u8, x: Node) -> bool
-    requires { ⌜ item-count x ≤ 4 ⌝ }
+    requires { ⌜ item-count x ≤ items-most ⌝ }
     ensures { λ r. ⌜ r ≡ every (item-count x) (λ i. item-formed n (item-at x i)) ⌝ }
 {
     let count = item_count(x);
@@ -74,7 +75,7 @@ fn label_formed(n: u8, names: &[u8], l: Label) -> bool
 }
 
 fn labels_formed(n: u8, names: &[u8], x: Node) -> bool
-    requires { ⌜ label-count x ≤ 16 ⌝ }
+    requires { ⌜ label-count x ≤ labels-most ⌝ }
     ensures { λ r. ⌜ r ≡ every (label-count x) (λ i. label-formed n (now (names .entry)) (label-at x i)) ⌝ }
 {
     let count = label_count(x);
@@ -91,7 +92,7 @@ fn labels_formed(n: u8, names: &[u8], x: Node) -> bool
 
 // Whether label i is none of those before it, the nearest first.
 fn label_new(names: &[u8], x: Node, i: usize) -> bool
-    requires { ⌜ i < 16 ⌝ }
+    requires { ⌜ i < labels-most ⌝ }
     ensures { λ r. ⌜ r ≡ label-new x (now (names .entry)) i ⌝ }
 {
     let l = x.labels[i];
@@ -108,7 +109,7 @@ fn label_new(names: &[u8], x: Node, i: usize) -> bool
 }
 
 fn labels_new(names: &[u8], x: Node) -> bool
-    requires { ⌜ label-count x ≤ 16 ⌝ }
+    requires { ⌜ label-count x ≤ labels-most ⌝ }
     ensures { λ r. ⌜ r ≡ every (label-count x) (label-new x (now (names .entry))) ⌝ }
 {
     let count = label_count(x);

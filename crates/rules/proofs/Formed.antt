@@ -1,7 +1,7 @@
 -- A table is well formed exactly if the record `WellFormed` holds of it: the tests of ../specs/Formed as plain facts.
 -- What a node's kind leaves unused is read as 0, so the facts hold of every kind alike.
 -- Assumes nothing.
-use mathlib.Core.Bool.{true, false, false≢true, not, and-false}
+use mathlib.Core.Bool.{true, false, false≢true, not, and-true, and-false}
 use mathlib.Core.List.{List}
 use mathlib.Core.Path.{_≡_, refl, sym, ap, _∙_}
 use mathlib.Mathlib.Data.Bool.Basic.{and-elim-left, and-elim-right, and-intro}
@@ -9,17 +9,19 @@ use Prim.Native.Nat.{ℕ, _<_, _≤_, _+_}
 use native.Mathlib.Decide.{decLt}
 use native.Mathlib.Omega.{arith}
 use lib.ListN.{length}
-use borrow.Author.Tests.{leb-true, le-leb, ltb-true, lt-ltb, not-true}
+use borrow.Author.Tests.{leb-true, le-leb, lt-leb, ltb-true, lt-ltb, le-ltb, not-true}
 use Rattle.rules.specs.Basics.{same, every}
 use Rattle.rules.specs.Words.{may-name}
 use Rattle.rules.specs.Numbers.{items-most, labels-most, table-nodes-most}
-use Rattle.rules.specs.Tables.{node-at, item-at, item-count, label-at, label-count, continuation, spelling-at, is-message, is-choice}
+use Rattle.rules.specs.Tables.{node-at, item-at, item-count, label-at, label-count, continuation, spelling, spelling-at, is-message, is-choice, SameNode, SameTable}
 use Rattle.rules.specs.Formed.{item-formed, label-formed, label-new, message-formed, choice-formed, formed-by, node-formed, well-formed}
-use Rattle.rules.proofs.Basics.{every-true, every-all, every-false, same-refl, same-false}
+use Rattle.rules.proofs.Basics.{tests-same, every-true, every-all, every-false, same-refl, same-false}
+use Rattle.rules.proofs.Tables.{same-table-sym}
 use Rattle.table.specs.declared.Kind.{Kind}
 use Rattle.table.specs.declared.Kind.the-variants.{End, Receive, Send, Branch, Choose}
 use Rattle.table.specs.declared.Item.{Item}
 use Rattle.table.specs.declared.Item.the-variants.{OfSort, Session}
+use Rattle.table.specs.declared.Label.{Label}
 use Rattle.table.specs.declared.Node.{Node}
 use Rattle.table.specs.declared.Table.{Table}
 
@@ -129,12 +131,6 @@ module _ {n : ℕ} {names : List ℕ} {x : Node} where
       go Branch e f = record { message = no-message l (ap is-message e); choice = choice-facts f }
       go Choose e f = record { message = no-message l (ap is-message e); choice = choice-facts f }
 
--- a node is formed as its kind asks
-pub node-kind :
-    (n : ℕ) (names : List ℕ) (x : Node) (k : Kind) → x .kind ≡ k → node-formed n names x ≡ formed-by k n names x
-unfolding node-formed
-node-kind n names x k e = rw e
-
 pub formed : {t : Table} {names : List ℕ} → well-formed t names ≡ true → WellFormed t names
 unfolding well-formed
 formed {t} {names} e =
@@ -189,8 +185,79 @@ module _ {n : ℕ} {names : List ℕ} {x : Node} where
       go Branch e = choice-test (ap is-choice e) (f .choice)
       go Choose e = choice-test (ap is-choice e) (f .choice)
 
--- the tests of a table, from those of its nodes
+-- The tests one at a time: what each of them settles, and what is left when the others pass.
+module _ (n : ℕ) (x : Node) where
+  pub items-many : items-most < item-count x → message-formed n x ≡ false
+  unfolding message-formed
+  items-many l = rw (lt-leb (item-count x) items-most l)
+
+  pub continuation-outside : n ≤ continuation x → message-formed n x ≡ false
+  unfolding message-formed
+  continuation-outside l = rw (le-ltb (continuation x) n l, and-false)
+
+  pub message-items :
+      item-count x ≤ items-most → continuation x < n
+      → message-formed n x ≡ every (item-count x) (λ i. item-formed n (item-at x i))
+  unfolding message-formed
+  message-items l m = rw (le-leb (item-count x) items-most l, lt-ltb (continuation x) n m, and-true)
+
+module _ (n : ℕ) (names : List ℕ) (l : Label) where
+  pub label-outside : length names < l .at + l .len → label-formed n names l ≡ false
+  unfolding label-formed
+  label-outside h = rw (lt-leb (l .at + l .len) (length names) h)
+
+  pub label-leads-outside : n ≤ l .to → label-formed n names l ≡ false
+  unfolding label-formed
+  label-leads-outside h = rw (le-ltb (l .to) n h, and-false)
+
+  pub label-name : l .at + l .len ≤ length names → l .to < n → label-formed n names l ≡ may-name (spelling names l)
+  unfolding label-formed
+  label-name h g = rw (le-leb (l .at + l .len) (length names) h, lt-ltb (l .to) n g, and-true)
+
+module _ (n : ℕ) (names : List ℕ) (x : Node) where
+  pub labels-none : label-count x < 1 → choice-formed n names x ≡ false
+  unfolding choice-formed
+  labels-none h = rw (lt-leb 1 (label-count x) h)
+
+  pub labels-many : labels-most < label-count x → choice-formed n names x ≡ false
+  unfolding choice-formed
+  labels-many h = rw (lt-leb (label-count x) labels-most h, and-false)
+
+  pub label-unformed :
+      every (label-count x) (λ i. label-formed n names (label-at x i)) ≡ false → choice-formed n names x ≡ false
+  unfolding choice-formed
+  label-unformed h = rw (h, and-false)
+
+  pub choice-labels :
+      1 ≤ label-count x → label-count x ≤ labels-most → every (label-count x) (λ i. label-formed n names (label-at x i)) ≡ true
+      → choice-formed n names x ≡ every (label-count x) (label-new x names)
+  unfolding choice-formed
+  choice-labels h g e = rw (le-leb 1 (label-count x) h, le-leb (label-count x) labels-most g, e)
+
+  -- a node is formed as its kind asks
+  pub node-kind : (k : Kind) → x .kind ≡ k → node-formed n names x ≡ formed-by k n names x
+  unfolding node-formed
+  node-kind k e = rw e
+
 module _ (t : Table) (names : List ℕ) where
+  pub nodes-none : t .count < 1 → well-formed t names ≡ false
+  unfolding well-formed
+  nodes-none h = rw (lt-leb 1 (t .count) h)
+
+  pub nodes-many : table-nodes-most < t .count → well-formed t names ≡ false
+  unfolding well-formed
+  nodes-many h = rw (lt-leb (t .count) table-nodes-most h, and-false)
+
+  pub start-outside : t .count ≤ t .start → well-formed t names ≡ false
+  unfolding well-formed
+  start-outside h = rw (le-ltb (t .start) (t .count) h, and-false)
+
+  pub node-unformed :
+      (i : ℕ) → i < t .count → node-formed (t .count) names (node-at t i) ≡ false → well-formed t names ≡ false
+  unfolding well-formed
+  node-unformed i l e =
+      rw (every-false (t .count) (λ i. node-formed (t .count) names (node-at t i)) i l e, and-false)
+
   pub nodes-formed :
       1 ≤ t .count → t .count ≤ table-nodes-most → t .start < t .count
       → ((i : ℕ) → i < t .count → node-formed (t .count) names (node-at t i) ≡ true) → well-formed t names ≡ true
@@ -199,12 +266,54 @@ module _ (t : Table) (names : List ℕ) where
       and-intro (and-intro (and-intro (le-leb _ _ some) (le-leb _ _ few)) (lt-ltb _ _ begins))
       (every-all (t .count) (λ i. node-formed (t .count) names (node-at t i)) each)
 
-  pub node-unformed :
-      (i : ℕ) → i < t .count → node-formed (t .count) names (node-at t i) ≡ false → well-formed t names ≡ false
-  unfolding well-formed
-  node-unformed i l e =
-      rw (every-false (t .count) (λ i. node-formed (t .count) names (node-at t i)) i l e, and-false)
-
 pub formed-true : {t : Table} {names : List ℕ} → WellFormed t names → well-formed t names ≡ true
 formed-true {t} {names} w =
     nodes-formed t names (w .some-node) (w .few-nodes) (w .begins) (λ i l. node-test (w .each i l))
+
+-- Unused room is never read: nodes, and tables, that say the same are formed alike.
+formed-same-node : {n : ℕ} {names : List ℕ} {x y : Node} → SameNode x y → FormedNode n names x → FormedNode n names y
+formed-same-node {n} {names} {x} {y} S f =
+    record {
+      message =
+          record {
+            few-items = omega (arith, S .items, f .message .few-items);
+            item-links = λ i k l e. f .message .item-links i k (item i l) (S .each-item i (item i l) ∙ e);
+            goes-on = omega (arith, S .goes-on, f .message .goes-on);
+          };
+      choice =
+          record {
+            some-label = λ e. omega (arith, S .labels, f .choice .some-label (ap is-choice (S .kind) ∙ e));
+            few-labels = omega (arith, S .labels, f .choice .few-labels);
+            label-links = λ i l. rw (← S .each-label i (label i l)) (f .choice .label-links i (label i l));
+            label-inside = λ i l. rw (← S .each-label i (label i l)) (f .choice .label-inside i (label i l));
+            label-named = λ i l. rw (← S .each-label i (label i l)) (f .choice .label-named i (label i l));
+            label-once =
+                λ i j l m e.
+                f .choice .label-once i j (label i l) (label j m) (spelled i (label i l) ∙ e ∙ sym (spelled j (label j m)));
+          };
+    }
+  where
+    item : (i : ℕ) → i < item-count y → i < item-count x
+    item i l = omega (arith, S .items)
+
+    label : (i : ℕ) → i < label-count y → i < label-count x
+    label i l = omega (arith, S .labels)
+
+    spelled : (i : ℕ) → i < label-count x → spelling-at x names i ≡ spelling-at y names i
+    spelled i l = ap (spelling names) (S .each-label i l)
+
+formed-same : {t u : Table} {names : List ℕ} → SameTable t u → WellFormed t names → WellFormed u names
+formed-same {t} {u} S w =
+    record {
+      some-node = omega (arith, S .count, w .some-node);
+      few-nodes = omega (arith, S .count, w .few-nodes);
+      begins = omega (arith, S .count, S .start, w .begins);
+      each =
+          λ i l.
+          let m : i < t .count = omega (arith, S .count) in
+          rw (← S .count) (formed-same-node (S .each i m) (w .each i m));
+    }
+
+pub well-formed-same : {t u : Table} (names : List ℕ) → SameTable t u → well-formed t names ≡ well-formed u names
+well-formed-same names S =
+    tests-same _ _ (λ e. formed-true (formed-same S (formed e))) (λ e. formed-true (formed-same (same-table-sym S) (formed e)))

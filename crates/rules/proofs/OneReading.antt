@@ -2,11 +2,9 @@
 -- unless they have one number and one place.
 -- Assumes nothing.
 use mathlib.Core.List.{List}
-use mathlib.Core.Logic.{_⊎_, inl, inr}
-use mathlib.Core.Path.{_≡_, sym}
-use Prim.Native.Nat.{ℕ, _<_}
-use native.Mathlib.Decide.{decLt}
-use native.Mathlib.Omega.{arith}
+use mathlib.Core.Logic.{inl, inr}
+use mathlib.Core.Path.{_≡_}
+use Prim.Native.Nat.{ℕ}
 use Rattle.rules.specs.Replies.{Reads, accepts, refuses}
 use Rattle.rules.proofs.OneTree.{one-tree}
 use Rattle.rules.proofs.Refusals.{goes-first-total}

@@ -3,7 +3,6 @@
 -- Assumes nothing.
 use mathlib.Core.Bool.{true, false≢true}
 use mathlib.Core.List.{List, [], _∷_, _++_, nil≢cons, head-eq-of-cons-eq, tail-eq-of-cons-eq}
-use mathlib.Core.Logic.{inl, inr}
 use mathlib.Core.Option.{Option, some}
 use mathlib.Core.Path.{_≡_, refl, sym, ap, _∙_}
 use Prim.Native.Nat.{ℕ}
@@ -24,7 +23,7 @@ use Rattle.rules.specs.Formed.{well-formed}
 use Rattle.rules.specs.Line.{Prints, first-refused, second-refused, yes, no, line, fields}
 use Rattle.rules.specs.Notation.{ended, name, Text, last-definition, definition, Writes, write-text}
 use Rattle.rules.specs.Numbering.{to-nothing, definition-leads}
-use Rattle.rules.specs.Refusals.{Fault, long-text, no-text-has, none-may-end, at-token, Seen, TokenFault, long-word, open-bracket, definition-more, node-more, label-more, item-more, same-label, same-name, undefined-name, round-name, GoesFirst, Stands, OneOf, unexpected, never-defined, group, used-names}
+use Rattle.rules.specs.Refusals.{Fault, long-text, no-text-has, none-may-end, at-token, Seen, TokenFault, long-word, open-bracket, definition-more, node-more, label-more, item-more, same-label, same-name, undefined-name, round-name, Stands, OneOf, unexpected, never-defined, used-names}
 use Rattle.rules.specs.Replies.{Reads, accepts, refuses, made, refused, dual-reply, Areas, AsksCompatible, no-dual, then-verdict}
 use Rattle.rules.specs.Tables.{blank-table, node-at, item-at}
 use Rattle.rules.specs.Tokens.{Token, tokens}

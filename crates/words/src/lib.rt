@@ -3,7 +3,7 @@
 ghost use mathlib.Core.Path.{_≡_};
 ghost use Prim.Native.Nat.{_<_};
 ghost use mathlib.Core.List.{[]};
-ghost use lib.ListN.{getD};
+ghost use lib.ListN.{length, getD};
 ghost use Rattle.rules.specs.Basics.{same};
 ghost use Rattle.rules.specs.Words.{blank, letter, word-byte, word-bytes, is-word, reserved-words, reserved-position, may-name};
 
@@ -15,7 +15,7 @@ pub const RESERVED_COUNT: usize = 5;
 
 const ROW: usize = 7;
 
-const RESERVED_BYTES: [u8; 35] = *b"end    string float  booleanvoid   ";
+const RESERVED_BYTES: [u8; RESERVED_COUNT * ROW] = *b"end    string float  booleanvoid   ";
 
 const RESERVED_LENGTHS: [usize; RESERVED_COUNT] = [3, 6, 5, 7, 4];
 
@@ -105,7 +105,7 @@ pub fn same_bytes(a: &[u8], b: &[u8]) -> bool
 
 // Whether w is the reserved word of row k.
 fn is_reserved_at(w: &[u8], k: usize) -> bool
-    requires { ⌜ k < 5 ⌝ }
+    requires { ⌜ k < length reserved-words ⌝ }
     ensures { λ r. ⌜ r ≡ same (now (w .entry)) (getD reserved-words k []) ⌝ }
 {
     let at = k * ROW;

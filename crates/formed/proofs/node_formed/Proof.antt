@@ -1,66 +1,50 @@
+-- `formed::node_formed` meets its contract, by the node's kind.
+-- Assumes nothing.
 use borrow.Author.Needs.{needs}
 use mathlib.Core.Path.{sym, _∙_}
 use Rattle.rules.proofs.Formed.{node-kind}
 use Rattle.formed.proofs.node_formed.Statement.{statement}
 use Rattle.formed.proofs.node_formed.Tie as tie
-use Rattle.formed.proofs.node_formed.Reads as reads
-use Rattle.formed.proofs.node_formed.Lts as lts
-use Rattle.formed.proofs.choice_formed.Reads as choice-formed-reads
-use Rattle.formed.proofs.message_formed.Reads as message-formed-reads
 
--- src/lib.rt:134:22
 enum-told : tie.Need-enum-told
 enum-told c = search needs
 
--- src/lib.rt:135:26
 enum-told-2 : tie.Need-enum-told-2
 enum-told-2 c = search needs
 
--- src/lib.rt:135:26
 message-formed-requires : tie.Need-message-formed-requires
 message-formed-requires c κs = search needs
 
--- src/lib.rt:136:23
 enum-told-3 : tie.Need-enum-told-3
 enum-told-3 c = search needs
 
--- src/lib.rt:136:23
 message-formed-requires-2 : tie.Need-message-formed-requires-2
 message-formed-requires-2 c κs = search needs
 
--- src/lib.rt:137:25
 enum-told-4 : tie.Need-enum-told-4
 enum-told-4 c = search needs
 
--- src/lib.rt:137:25
 choice-formed-requires : tie.Need-choice-formed-requires
 choice-formed-requires c κs = search needs
 
--- src/lib.rt:138:25
 enum-told-5 : tie.Need-enum-told-5
 enum-told-5 c = search needs
 
--- src/lib.rt:138:25
 choice-formed-requires-2 : tie.Need-choice-formed-requires-2
 choice-formed-requires-2 c κs = search needs
 
--- src/lib.rt:129:1
 returns : tie.Need-returns
 returns c = sym (node-kind _ _ _ _ (c .enum-told .given .1))
 
--- src/lib.rt:129:1
 returns-2 : tie.Need-returns-2
 returns-2 c = c .message-formed .ensures ∙ sym (node-kind _ _ _ _ (c .before .enum-told2 .given .1))
 
--- src/lib.rt:129:1
 returns-3 : tie.Need-returns-3
 returns-3 c = c .message-formed2 .ensures ∙ sym (node-kind _ _ _ _ (c .before .enum-told3 .given .1))
 
--- src/lib.rt:129:1
 returns-4 : tie.Need-returns-4
 returns-4 c = c .choice-formed .ensures ∙ sym (node-kind _ _ _ _ (c .before .enum-told4 .given .1))
 
--- src/lib.rt:129:1
 returns-5 : tie.Need-returns-5
 returns-5 c = c .choice-formed2 .ensures ∙ sym (node-kind _ _ _ _ (c .before .enum-told5 .given .1))
 

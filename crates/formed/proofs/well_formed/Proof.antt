@@ -2,14 +2,14 @@
 -- Assumes nothing.
 use borrow.Author.Count.{below-more}
 use borrow.Author.Needs.{needs}
-use borrow.Author.Tests.{lt-leb, le-ltb, not-true, not-false}
-use mathlib.Core.Bool.{true, and-false}
+use borrow.Author.Tests.{not-true, not-false}
+use mathlib.Core.Bool.{true}
 use mathlib.Core.Path.{_≡_, sym, _∙_}
 use Prim.Native.Nat.{ℕ, _≤_, _<_, _-_}
 use native.Mathlib.Omega.{arith}
 use Rattle.rules.specs.Tables.{node-at}
-use Rattle.rules.specs.Formed.{node-formed, well-formed}
-use Rattle.rules.proofs.Formed.{nodes-formed, node-unformed}
+use Rattle.rules.specs.Formed.{node-formed}
+use Rattle.rules.proofs.Formed.{nodes-none, nodes-many, start-outside, node-unformed, nodes-formed}
 use Rattle.formed.proofs.well_formed.Statement.{statement}
 use Rattle.formed.proofs.well_formed.Tie as tie
 
@@ -23,16 +23,13 @@ cast-count : tie.Need-cast-count Inv-loop μ-loop
 cast-count c = search needs
 
 returns : tie.Need-returns Inv-loop μ-loop
-unfolding well-formed
-returns c = sym (rw (well-formed, c .if1 .taken))
+returns c = sym (nodes-none _ _ (omega arith))
 
 returns-2 : tie.Need-returns-2 Inv-loop μ-loop
-unfolding well-formed
-returns-2 c = sym (rw (well-formed, lt-leb _ _ (c .if2 .taken), and-false))
+returns-2 c = sym (nodes-many _ _ (omega arith))
 
 returns-3 : tie.Need-returns-3 Inv-loop μ-loop
-unfolding well-formed
-returns-3 c = sym (rw (well-formed, le-ltb _ _ (c .if3 .taken), and-false))
+returns-3 c = sym (start-outside _ _ (omega arith))
 
 loop-holds : tie.Need-loop-holds Inv-loop μ-loop
 loop-holds c = (omega arith, λ j l. absurd (omega arith))

@@ -1,3 +1,5 @@
+-- `judging::choice` is safe and ends.
+-- Assumes nothing.
 use borrow.Author.Needs.{needs}
 use Prim.Native.Nat.{_≤_, _-_}
 use Rattle.judging.proofs.choice.Statement.{statement}

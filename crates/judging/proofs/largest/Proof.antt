@@ -1,3 +1,5 @@
+-- `judging::largest` is safe and ends.
+-- Assumes nothing.
 use borrow.Author.Needs.{needs}
 use Prim.Native.Nat.{_≤_, _-_}
 use Rattle.judging.proofs.largest.Statement.{statement}

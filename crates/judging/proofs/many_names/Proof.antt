@@ -1,3 +1,5 @@
+-- `judging::many_names` is safe and ends, and has made as many bytes as it says.
+-- Assumes nothing.
 use borrow.Author.Needs.{needs}
 use mathlib.Core.Path.{_≡_}
 use Prim.Native.Nat.{_≤_, _-_}

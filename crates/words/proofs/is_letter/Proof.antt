@@ -1,3 +1,5 @@
+-- `words::is_letter` meets its contract, by where the byte stands among the letters.
+-- Assumes nothing.
 use native.Mathlib.Omega.{arith}
 use mathlib.Core.Path.{sym}
 use Rattle.rules.proofs.Words.{letter-before, letter-capital, letter-between, letter-small, letter-behind}

@@ -1,3 +1,5 @@
+-- `words::is_word` meets its contract: its tests are the facts of a word.
+-- Assumes nothing.
 use borrow.Author.Needs.{needs}
 use borrow.Author.Tests.{not-true, not-false}
 use mathlib.Core.Bool.{false≢true}
@@ -13,28 +15,19 @@ use Rattle.rules.proofs.Basics.{tests-same, part-cut}
 use Rattle.rules.proofs.Words.{word, word-true}
 use Rattle.words.proofs.is_word.Statement.{statement}
 use Rattle.words.proofs.is_word.Tie as tie
-use Rattle.words.proofs.is_word.Reads as reads
-use Rattle.words.proofs.is_word.Lts as lts
-use Rattle.words.proofs.is_letter.Reads as is-letter-reads
-use Rattle.words.proofs.word_bytes.Reads as word-bytes-reads
 
--- src/lib.rt:64:9
 returns : tie.Need-returns
 returns c = sym (bool-eq-false (λ e. omega (arith, word e .some-byte)))
 
--- src/lib.rt:67:9
 returns-2 : tie.Need-returns-2
 returns-2 c = sym (bool-eq-false (λ e. omega (arith, word e .few-bytes)))
 
--- src/lib.rt:69:19
 shared-slice-read-is-letter : tie.Need-shared-slice-read-is-letter
 shared-slice-read-is-letter c = search needs
 
--- src/lib.rt:69:9
 is-letter-requires : tie.Need-is-letter-requires
 is-letter-requires c κs = search needs
 
--- src/lib.rt:70:9
 returns-3 : tie.Need-returns-3
 returns-3 c =
     sym
@@ -42,23 +35,18 @@ returns-3 c =
     (λ e.
     false≢true (sym (sym (c .before .is-letter .ensures) ∙ not-true _ (c .if3 .taken)) ∙ word e .begins)))
 
--- src/lib.rt:72:16
 sub-word-bytes : tie.Need-sub-word-bytes
 sub-word-bytes c = search needs
 
--- src/lib.rt:72:16
 part-word-bytes-start : tie.Need-part-word-bytes-start
 part-word-bytes-start c = search needs
 
--- src/lib.rt:72:16
 part-word-bytes-end : tie.Need-part-word-bytes-end
 part-word-bytes-end c = search needs
 
--- src/lib.rt:72:5
 word-bytes-requires : tie.Need-word-bytes-requires
 word-bytes-requires c κs = search needs
 
--- src/lib.rt:60:1
 returns-4 : tie.Need-returns-4
 returns-4 c =
     let w : List ℕ = c .before .before .before .before .before .before .before .before .args .w .now in

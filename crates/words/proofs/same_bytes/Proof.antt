@@ -29,7 +29,7 @@ shared-slice-read-if2-2 : tie.Need-shared-slice-read-if2-2 Inv-loop μ-loop
 shared-slice-read-if2-2 c = omega arith
 
 returns-2 : tie.Need-returns-2 Inv-loop μ-loop
-returns-2 c = sym (same-differ _ _ _ (c .if2 .taken))
+returns-2 c = sym (same-differ _ _ (c .before .before .before .before .loop .i) (λ e. omega arith))
 
 add-i : tie.Need-add-i Inv-loop μ-loop
 add-i c = omega arith
@@ -38,7 +38,7 @@ loop-less : tie.Need-loop-less Inv-loop μ-loop
 loop-less c = omega arith
 
 loop-again : tie.Need-loop-again Inv-loop μ-loop
-loop-again c = (omega arith, below-more _ _ (c .before .before .before .before .loop .inv .1) (c .if2 .left))
+loop-again c = (omega arith, below-more _ _ (c .before .before .before .before .loop .inv .1) (omega arith))
 
 returns-3 : tie.Need-returns-3 Inv-loop μ-loop
 returns-3 c = sym (same-all _ _ (c .before .before .if1 .left) (λ j l. c .before .loop .inv .1 j (omega arith)))

@@ -1,3 +1,5 @@
+-- `formed::nodes::spelled` meets its contract: a part that would go past the name bytes is cut where they end.
+-- Assumes nothing.
 use borrow.Author.Needs.{needs}
 use mathlib.Core.List.{List}
 use mathlib.Core.Path.{sym, _∙_}
@@ -9,48 +11,34 @@ use Rattle.table.specs.declared.Label.{Label}
 use Rattle.rules.proofs.Basics.{part-cut, part-none}
 use Rattle.formed.proofs.nodes.spelled.Statement.{statement}
 use Rattle.formed.proofs.nodes.spelled.Tie as tie
-use Rattle.formed.proofs.nodes.spelled.Reads as reads
-use Rattle.formed.proofs.nodes.spelled.Lts as lts
-use Rattle.formed.proofs.nodes.end_of.Reads as end-of-reads
-use Rattle.formed.proofs.nodes.wide_place.Reads as wide-place-reads
 
--- src/nodes.rt:76:9
 wide-place-requires : tie.Need-wide-place-requires
 wide-place-requires c κs = search needs
 
--- src/nodes.rt:77:9
 end-of-requires : tie.Need-end-of-requires
 end-of-requires c κs = search needs
 
--- src/nodes.rt:79:16
 sub-result : tie.Need-sub-result
 sub-result c = search needs
 
--- src/nodes.rt:79:16
 part-result-start : tie.Need-part-result-start
 part-result-start c = search needs
 
--- src/nodes.rt:79:16
 part-result-end : tie.Need-part-result-end
 part-result-end c = search needs
 
--- src/nodes.rt:79:9
 returns : tie.Need-returns
 returns c = rw (c .before .before .end-of .ensures, c .before .before .before .wide-place .ensures, add-sub-cancel-left)
 
--- src/nodes.rt:82:16
 sub-result-2 : tie.Need-sub-result-2
 sub-result-2 c = search needs
 
--- src/nodes.rt:82:16
 part-result-start-2 : tie.Need-part-result-start-2
 part-result-start-2 c = search needs
 
--- src/nodes.rt:82:16
 part-result-end-2 : tie.Need-part-result-end-2
 part-result-end-2 c = search needs
 
--- src/nodes.rt:82:9
 returns-2 : tie.Need-returns-2
 returns-2 c =
     let names : List ℕ = c .before .before .before .before .before .before .args .names .now in
@@ -58,19 +46,15 @@ returns-2 c =
     rw (c .before .before .before .before .wide-place .ensures)
     (part-cut names (l .at) (length names - l .at) (omega arith) ∙ sym (part-cut names (l .at) (l .len) (omega arith)))
 
--- src/nodes.rt:85:5
 sub-result-3 : tie.Need-sub-result-3
 sub-result-3 c = search needs
 
--- src/nodes.rt:85:5
 part-result-start-3 : tie.Need-part-result-start-3
 part-result-start-3 c = search needs
 
--- src/nodes.rt:85:5
 part-result-end-3 : tie.Need-part-result-end-3
 part-result-end-3 c = search needs
 
--- src/nodes.rt:73:1
 returns-3 : tie.Need-returns-3
 returns-3 c =
     let names : List ℕ = c .before .before .before .before .before .before .args .names .now in
