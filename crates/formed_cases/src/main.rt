@@ -1,0 +1,281 @@
+// What document 01 calls well formed: each limit at its number and one above, words and reserved words, labels that are and are not
+// twice in one choice, and anything at all in unused room. The file `stdout` has what each must be, written from document 01.
+use formed::well_formed;
+use table::ITEMS_MOST;
+use table::Item;
+use table::Kind;
+use table::LABELS_MOST;
+use table::Label;
+use table::NODES_MOST;
+use table::Node;
+use table::Slot;
+use table::Sort;
+use table::Table;
+
+fn tell(what: &[u8], t: Table, names: &[u8]) {
+    io::write_all(1, what);
+    if well_formed(t, names) {
+        io::write_all(1, b": yes\n");
+    } else {
+        io::write_all(1, b": no\n");
+    }
+}
+
+// A table of one node, which starts there. Every node past the count is rubbish.
+fn alone(x: Node) -> Table {
+    let mut nodes = [rubbish(Kind::Choose); NODES_MOST];
+    nodes[0] = x;
+    Table {
+        nodes,
+        count: 1,
+        start: 0,
+    }
+}
+
+// A node whose every number is as large as it can be.
+fn rubbish(kind: Kind) -> Node {
+    let label = Label {
+        at: 65535,
+        len: 255,
+        to: 255,
+    };
+    let slot = Slot {
+        item: Item::Session(255),
+    };
+    Node {
+        kind,
+        items: [slot; ITEMS_MOST],
+        item_count: 255,
+        labels: [label; LABELS_MOST],
+        label_count: 255,
+        next: 255,
+    }
+}
+
+// A message of `count` items, all of them `item`.
+fn message(kind: Kind, item: Item, count: u8, next: u8) -> Node {
+    let r = rubbish(kind);
+    let labels = r.labels;
+    let slot = Slot { item };
+    Node {
+        kind,
+        items: [slot; ITEMS_MOST],
+        item_count: count,
+        labels,
+        label_count: 255,
+        next,
+    }
+}
+
+// A choice of `count` labels: one byte each, at 0, 1 and so on.
+fn choice(kind: Kind, count: u8) -> Node {
+    let r = rubbish(kind);
+    let items = r.items;
+    let mut labels = r.labels;
+    let mut i = 0;
+    while i < LABELS_MOST {
+        labels[i] = Label {
+            at: i as u16,
+            len: 1,
+            to: 0,
+        };
+        i += 1;
+    }
+    Node {
+        kind,
+        items,
+        item_count: 255,
+        labels,
+        label_count: count,
+        next: 255,
+    }
+}
+
+// A choice of one label.
+fn labelled(at: u16, len: u8, to: u8) -> Node {
+    let mut x = choice(Kind::Branch, 1);
+    x.labels[0] = Label { at, len, to };
+    x
+}
+
+// A table of one choice of one label, which is all of `name`.
+fn named(name: &[u8]) {
+    let n = name.len();
+    io::write_all(1, b"label ");
+    if n <= 255 {
+        tell(name, alone(labelled(0, n as u8, 0)), name);
+    }
+}
+
+fn counts() {
+    let x = rubbish(Kind::End);
+    let mut t = alone(x);
+    tell(b"1 node", t, b"");
+    t.count = 0;
+    tell(b"0 nodes", t, b"");
+    t.nodes = [x; NODES_MOST];
+    t.count = 128;
+    tell(b"128 nodes", t, b"");
+    t.start = 127;
+    tell(b"start 127 of 128", t, b"");
+    t.start = 128;
+    tell(b"start 128 of 128", t, b"");
+    t.start = 0;
+    t.count = 129;
+    tell(b"129 nodes", t, b"");
+    t.count = 255;
+    tell(b"255 nodes", t, b"");
+}
+
+fn messages() {
+    let sort = Item::OfSort(Sort::Void);
+    tell(b"0 items", alone(message(Kind::Receive, sort, 0, 0)), b"");
+    tell(b"4 items", alone(message(Kind::Send, sort, 4, 0)), b"");
+    tell(b"5 items", alone(message(Kind::Send, sort, 5, 0)), b"");
+    tell(
+        b"255 items",
+        alone(message(Kind::Receive, sort, 255, 0)),
+        b"",
+    );
+    tell(
+        b"continuation 1 of 1",
+        alone(message(Kind::Receive, sort, 1, 1)),
+        b"",
+    );
+    tell(
+        b"item 0 of 1",
+        alone(message(Kind::Receive, Item::Session(0), 4, 0)),
+        b"",
+    );
+    tell(
+        b"item 1 of 1",
+        alone(message(Kind::Receive, Item::Session(1), 1, 0)),
+        b"",
+    );
+    tell(
+        b"item 255 of 1",
+        alone(message(Kind::Send, Item::Session(255), 4, 0)),
+        b"",
+    );
+}
+
+fn choices() {
+    tell(
+        b"0 labels",
+        alone(choice(Kind::Choose, 0)),
+        b"abcdefghijklmnop",
+    );
+    tell(
+        b"1 label",
+        alone(choice(Kind::Branch, 1)),
+        b"abcdefghijklmnop",
+    );
+    tell(
+        b"16 labels",
+        alone(choice(Kind::Choose, 16)),
+        b"abcdefghijklmnop",
+    );
+    tell(
+        b"17 labels",
+        alone(choice(Kind::Choose, 17)),
+        b"abcdefghijklmnop",
+    );
+    tell(
+        b"255 labels",
+        alone(choice(Kind::Branch, 255)),
+        b"abcdefghijklmnop",
+    );
+    tell(
+        b"16 labels, 15 name bytes",
+        alone(choice(Kind::Branch, 16)),
+        b"abcdefghijklmno",
+    );
+    tell(b"no name bytes", alone(choice(Kind::Branch, 1)), b"");
+    tell(b"label to 1 of 1", alone(labelled(0, 2, 1)), b"ok");
+    tell(b"label at the end", alone(labelled(1, 2, 0)), b"-ok");
+    tell(b"label one past the end", alone(labelled(1, 3, 0)), b"-ok");
+    tell(b"label behind the end", alone(labelled(4, 0, 0)), b"-ok");
+    tell(
+        b"label far behind the end",
+        alone(labelled(65535, 255, 0)),
+        b"-ok",
+    );
+    tell(
+        b"label inside a longer word",
+        alone(labelled(2, 2, 0)),
+        b"unknown",
+    );
+}
+
+fn twice() {
+    tell(
+        b"first and second the same",
+        alone(choice(Kind::Branch, 16)),
+        b"aacdefghijklmnop",
+    );
+    tell(
+        b"first and last the same",
+        alone(choice(Kind::Choose, 16)),
+        b"abcdefghijklmnoa",
+    );
+    tell(
+        b"seventh and twelfth the same",
+        alone(choice(Kind::Branch, 16)),
+        b"abcdefghijkgmnop",
+    );
+    tell(
+        b"the same in the other case",
+        alone(choice(Kind::Choose, 16)),
+        b"abcdefghijklmnoA",
+    );
+    let mut x = choice(Kind::Choose, 2);
+    x.labels[0] = Label {
+        at: 0,
+        len: 4,
+        to: 0,
+    };
+    x.labels[1] = Label {
+        at: 0,
+        len: 3,
+        to: 0,
+    };
+    tell(b"one the other's beginning", alone(x), b"stop");
+    x.labels[1] = Label {
+        at: 4,
+        len: 4,
+        to: 0,
+    };
+    tell(b"twice at two places", alone(x), b"stopstop");
+    tell(b"another at two places", alone(x), b"stopstep");
+}
+
+fn words() {
+    named(b"");
+    named(b"a");
+    named(b"Z9_");
+    named(b"_a");
+    named(b"9a");
+    named(b"a-b");
+    named(b"a b");
+    named(b"sixteen_bytes_ok");
+    named(b"seventeen_bytes__");
+    named(b"end");
+    named(b"string");
+    named(b"float");
+    named(b"boolean");
+    named(b"void");
+    named(b"End");
+    named(b"VOID");
+    named(b"en");
+    named(b"ends");
+    named(b"booleans");
+    named(b"late");
+}
+
+fn main() {
+    counts();
+    messages();
+    choices();
+    twice();
+    words();
+}
