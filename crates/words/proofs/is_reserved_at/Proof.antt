@@ -1,10 +1,13 @@
 -- `words::is_reserved_at` meets its contract: a row of the table is its reserved word.
 -- Assumes nothing.
 use borrow.Author.Needs.{needs}
-use mathlib.Core.Path.{_∙_}
+use mathlib.Core.Path.{ap, _∙_}
+use Prim.Native.Nat.{ℕ, _*_}
 use native.Mathlib.Nat.{add-sub-cancel-left}
 use native.Mathlib.Omega.{arith}
-use Rattle.words.proofs.Reserved.{row-fits, row-word}
+use lib.ListN.{getD}
+use Rattle.rules.specs.Basics.{part, same}
+use Rattle.words.proofs.Reserved.{table, lengths, row-fits, row-word}
 use Rattle.words.proofs.is_reserved_at.Statement.{statement}
 use Rattle.words.proofs.is_reserved_at.Tie as tie
 
@@ -33,7 +36,10 @@ same-bytes-requires : tie.Need-same-bytes-requires
 same-bytes-requires c κs = search needs
 
 returns : tie.Need-returns
-returns c = c .same-bytes .ensures ∙ rw (add-sub-cancel-left, row-word _ (c .before .before .before .before .pre))
+returns c =
+    let k : ℕ = c .before .before .before .before .args .k in
+    c .same-bytes .ensures
+    ∙ ap (same _) (ap (part table (k * 7)) (add-sub-cancel-left (k * 7) (getD lengths k 0)) ∙ row-word k (c .before .before .before .before .pre))
 
 pub is-reserved-at-spec : {M : Type 1} → statement M
 is-reserved-at-spec =

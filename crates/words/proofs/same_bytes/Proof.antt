@@ -17,7 +17,7 @@ abbrev μ-loop : tie.MeasureT-loop
 μ-loop a b i₀ i = length a - i
 
 returns : tie.Need-returns Inv-loop μ-loop
-returns c = sym (same-lengths _ _ (c .if1 .taken))
+returns c = sym (same-lengths _ _ (λ e. omega arith))
 
 loop-holds : tie.Need-loop-holds Inv-loop μ-loop
 loop-holds c = search needs
@@ -41,7 +41,7 @@ loop-again : tie.Need-loop-again Inv-loop μ-loop
 loop-again c = (omega arith, below-more _ _ (c .before .before .before .before .loop .inv .1) (omega arith))
 
 returns-3 : tie.Need-returns-3 Inv-loop μ-loop
-returns-3 c = sym (same-all _ _ (c .before .before .if1 .left) (λ j l. c .before .loop .inv .1 j (omega arith)))
+returns-3 c = sym (same-all _ _ (omega arith) (λ j l. c .before .loop .inv .1 j (omega arith)))
 
 pub same-bytes-spec : {M : Type 1} → statement M
 same-bytes-spec =
