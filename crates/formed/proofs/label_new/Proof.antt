@@ -15,8 +15,7 @@ use Rattle.formed.proofs.label_new.Tie as tie
 
 abbrev Inv-loop : tie.InvT-loop
 Inv-loop names i x name back₀ back =
-    (1 ≤ back) × (back ≤ i + 1)
-    × ((j : ℕ) → j < i → i < j + back → not (same (spelling-at x names i) (spelling-at x names j)) ≡ true)
+    (1 ≤ back) × ((j : ℕ) → j < i → i < j + back → not (same (spelling-at x names i) (spelling-at x names j)) ≡ true)
 
 abbrev μ-loop : tie.MeasureT-loop
 μ-loop names i x name back₀ back = i + 1 - back
@@ -31,7 +30,7 @@ spelled-requires : tie.Need-spelled-requires Inv-loop μ-loop
 spelled-requires c κs = search needs
 
 loop-holds : tie.Need-loop-holds Inv-loop μ-loop
-loop-holds c = (omega arith, omega arith, λ j l m. absurd (omega arith))
+loop-holds c = (omega arith, λ j l m. absurd (omega arith))
 
 mul-earlier : tie.Need-mul-earlier Inv-loop μ-loop
 mul-earlier c = omega arith
@@ -63,16 +62,19 @@ loop-less c = omega arith
 loop-again : tie.Need-loop-again Inv-loop μ-loop
 loop-again c = (
   omega arith,
-  omega arith,
-  back-more _ _ _ (omega arith) (c .before .before .before .before .before .loop .inv .2)
+  λ j l m.
+      back-more _ _ _ (omega arith) (c .before .before .before .before .before .loop .inv .1)
       (ap not
       (sym (c .before .same-bytes .ensures ∙ ap₂ same (c .before .before .before .before .before .before .spelled .ensures) (c .before .before .spelled2 .ensures))
-      ∙ c .if1 .left)),
+      ∙ c .if1 .left))
+      j
+      l
+      (omega arith),
 )
 
 returns-2 : tie.Need-returns-2 Inv-loop μ-loop
 unfolding label-new
-returns-2 c = sym (every-all _ _ (λ j l. c .before .loop .inv .2 j l (omega arith)))
+returns-2 c = sym (every-all _ _ (λ j l. c .before .loop .inv .1 j l (omega arith)))
 
 pub label-new-spec : {M : Type 1} → statement M
 label-new-spec =
