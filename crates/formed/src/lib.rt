@@ -1,10 +1,14 @@
-// Whether a table is well formed with its name bytes. Any table and any bytes may be asked about.
-// Nodes are taken out of the table one at a time; `nodes` has what is read of one.
-use crate::nodes::continuation;
-use crate::nodes::end_of;
-use crate::nodes::item_count;
-use crate::nodes::label_count;
-use crate::nodes::spelled;
+// Whether a table is well formed with its name bytes. `well_formed` answers the definition of its name in `rules`, for any table and
+// any bytes, and asks nothing of its caller. Nodes are taken out of the table one at a time, and read through the crate `nodes`;
+// labels are compared, and judged as words, by the crate `words`, where they stand in the name bytes.
+use nodes::continuation;
+use nodes::item_at;
+use nodes::item_count;
+use nodes::label_at;
+use nodes::label_count;
+use nodes::label_end;
+use nodes::spelling;
+use nodes::spelling_at;
 use table::ITEMS_MOST;
 use table::Item;
 use table::Kind;
@@ -16,33 +20,26 @@ use table::Table;
 use words::may_name;
 use words::same_bytes;
 ghost use mathlib.Core.Path.{_≡_};
-ghost use Prim.Native.Nat.{_≤_, _<_};
 ghost use Rattle.rules.specs.Basics.{every};
-ghost use Rattle.rules.specs.Numbers.{items-most, labels-most};
 ghost use Rattle.rules.specs.Tables.{item-at, item-count, label-at, label-count};
 ghost use Rattle.rules.specs.Formed.{item-formed, label-formed, label-new, message-formed, choice-formed, node-formed, well-formed};
 
-pub mod nodes;
-
-fn item_formed(n: u8, a: Item) -> bool
-    ensures { λ r. ⌜ r ≡ item-formed n a ⌝ }
+fn item_formed(n: u8, item: Item) -> bool
+    ensures { λ r. ⌜ r ≡ item-formed n item ⌝ }
 {
-    match a {
+    match item {
         Item::OfSort(_) => true,
         Item::Session(k) => k < n,
     }
 }
 
 fn items_formed(n: u8, x: Node) -> bool
-    requires { ⌜ item-count x ≤ items-most ⌝ }
     ensures { λ r. ⌜ r ≡ every (item-count x) (λ i. item-formed n (item-at x i)) ⌝ }
 {
     let count = item_count(x);
     let mut i = 0;
     while i < count {
-        let s = x.items[i];
-        let a = s.item;
-        if !item_formed(n, a) {
+        if !item_formed(n, item_at(x, i)) {
             return false;
         }
         i += 1;
@@ -65,24 +62,22 @@ fn message_formed(n: u8, x: Node) -> bool
 fn label_formed(n: u8, names: &[u8], l: Label) -> bool
     ensures { λ r. ⌜ r ≡ label-formed n (now (names .entry)) l ⌝ }
 {
-    if names.len() < end_of(l) {
+    if names.len() < label_end(l) {
         return false;
     }
     if n <= l.to {
         return false;
     }
-    may_name(spelled(names, l))
+    may_name(spelling(names, l))
 }
 
 fn labels_formed(n: u8, names: &[u8], x: Node) -> bool
-    requires { ⌜ label-count x ≤ labels-most ⌝ }
     ensures { λ r. ⌜ r ≡ every (label-count x) (λ i. label-formed n (now (names .entry)) (label-at x i)) ⌝ }
 {
     let count = label_count(x);
     let mut i = 0;
     while i < count {
-        let l = x.labels[i];
-        if !label_formed(n, names, l) {
+        if !label_formed(n, names, label_at(x, i)) {
             return false;
         }
         i += 1;
@@ -90,26 +85,22 @@ fn labels_formed(n: u8, names: &[u8], x: Node) -> bool
     true
 }
 
-// Whether label i is none of those before it, the nearest first.
+// Whether label i is none of those before it.
 fn label_new(names: &[u8], x: Node, i: usize) -> bool
-    requires { ⌜ i < labels-most ⌝ }
     ensures { λ r. ⌜ r ≡ label-new x (now (names .entry)) i ⌝ }
 {
-    let l = x.labels[i];
-    let name = spelled(names, l);
-    let mut back = 1;
-    while back <= i {
-        let earlier = x.labels[i - back];
-        if same_bytes(name, spelled(names, earlier)) {
+    let name = spelling_at(names, x, i);
+    let mut j = 0;
+    while j < i {
+        if same_bytes(name, spelling_at(names, x, j)) {
             return false;
         }
-        back += 1;
+        j += 1;
     }
     true
 }
 
 fn labels_new(names: &[u8], x: Node) -> bool
-    requires { ⌜ label-count x ≤ labels-most ⌝ }
     ensures { λ r. ⌜ r ≡ every (label-count x) (label-new x (now (names .entry))) ⌝ }
 {
     let count = label_count(x);

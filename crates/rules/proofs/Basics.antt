@@ -1,7 +1,7 @@
 -- Laws of the words of ../specs/Basics: each test tells the fact that it tests, and the fact gives the test back.
 -- `FirstAt` says what `first` finds of every position, so that no proof opens `first` again.
 -- Assumes nothing.
-use mathlib.Core.Bool.{Bool, true, false, false≢true}
+use mathlib.Core.Bool.{Bool, true, false, false≢true, not}
 use mathlib.Core.List.{List, [], _∷_}
 use mathlib.Core.Path.{_≡_, refl, sym, ap, ap₂, _∙_}
 use mathlib.Mathlib.Data.Bool.Basic.{bool-eq-false}
@@ -10,9 +10,9 @@ use native.Mathlib.Decide.{decLt}
 use native.Mathlib.Omega.{arith}
 use lib.Dec.{eqb}
 use lib.ListN.{length, getD, drop, length-drop, drop-of-length-le}
-use lib.Seq.{ext-getD, take-all, length-take-le}
+use lib.Seq.{ext-getD, take-all}
 use borrow.Author.Count.{below-more}
-use borrow.Author.Tests.{eqb-true, eq-eqb, ltb-true, lt-ltb}
+use borrow.Author.Tests.{eqb-true, eq-eqb, ltb-true, lt-ltb, not-true, not-false}
 use Rattle.rules.specs.Basics.{part, same, every, first, some-below}
 
 -- two tests that pass together are the same
@@ -40,11 +40,16 @@ every-all (suc n) p f = rw (every, f n (omega arith)) (every-all n p (λ i l. f 
 pub every-false : (n : ℕ) (p : ℕ → Bool) (i : ℕ) → i < n → p i ≡ false → every n p ≡ false
 every-false n p i l e = bool-eq-false (λ h. false≢true (sym e ∙ every-true n p h i l))
 
--- tests that agree at each position below n agree below n
-pub every-same : (n : ℕ) (p q : ℕ → Bool) → ((i : ℕ) → i < n → p i ≡ q i) → every n p ≡ every n q
-every-same n p q f =
-    tests-same (every n p) (every n q) (λ e. every-all n q (λ i l. sym (f i l) ∙ every-true n p e i l))
-    (λ e. every-all n p (λ i l. f i l ∙ every-true n q e i l))
+-- a loop that judges one position after the other and stops at the first that does not pass: where it stops, as it goes on, at its end
+module _ (p : ℕ → Bool) where
+  pub every-stopped : (n i : ℕ) {r : Bool} → i < n → r ≡ p i → not r ≡ true → false ≡ every n p
+  every-stopped n i {r} l e f = sym (every-false n p i l (sym e ∙ not-true r f))
+
+  pub every-passed : (i : ℕ) {r : Bool} → ((j : ℕ) → j < i → p j ≡ true) → r ≡ p i → not r ≡ false → (j : ℕ) → j < i + 1 → p j ≡ true
+  every-passed i {r} all e f = below-more (λ j. p j ≡ true) i all (sym e ∙ not-false r f)
+
+  pub every-ended : (n i : ℕ) → n ≤ i → ((j : ℕ) → j < i → p j ≡ true) → true ≡ every n p
+  every-ended n i l all = sym (every-all n p (λ j m. all j (omega arith)))
 
 -- what `first` finds: the one position with nothing before it, and the end where there is none
 pub record FirstAt (n : ℕ) (p : ℕ → Bool) (i : ℕ) : Type 0 where
@@ -90,16 +95,6 @@ pub first-nowhere : {n : ℕ} {p : ℕ → Bool} (i : ℕ) → i ≡ n → ((j :
 first-nowhere {n} {p} i e f =
     sym (found-first n p i (record { within = omega arith; before = f; here = λ m. absurd (omega arith) }))
 
-pub first-same : (n : ℕ) (p q : ℕ → Bool) → ((i : ℕ) → i < n → p i ≡ q i) → first n p ≡ first n q
-first-same n p q f =
-    let F = first-found n q in
-    found-first n p (first n q)
-    (record {
-      within = F .within;
-      before = λ j l. f j (omega (arith, F .within)) ∙ F .before j l;
-      here = λ l. f (first n q) l ∙ F .here l;
-    })
-
 -- a test that passes somewhere, by its position
 pub some-below-true : (n : ℕ) (p : ℕ → Bool) → some-below n p ≡ true → (i : ℕ) × (i < n) × (p i ≡ true)
 some-below-true n p e = let l = ltb-true (first n p) n e in (first n p, l, first-found n p .here l)
@@ -143,6 +138,3 @@ part-cut s at n l = take-all n (drop at s) (omega (arith, length-drop at s))
 
 pub part-none : (s : List ℕ) (at n : ℕ) → length s ≤ at → part s at n ≡ []
 part-none s at n l = part-cut s at n (omega arith) ∙ drop-of-length-le s l
-
-pub part-length : (s : List ℕ) (at n : ℕ) → at + n ≤ length s → length (part s at n) ≡ n
-part-length s at n l = length-take-le n (drop at s) (omega (arith, length-drop at s))

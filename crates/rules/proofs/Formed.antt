@@ -1,27 +1,28 @@
 -- A table is well formed exactly if the record `WellFormed` holds of it: the tests of ../specs/Formed as plain facts.
--- What a node's kind leaves unused is read as 0, so the facts hold of every kind alike.
+-- What a node's kind leaves unused is read as 0, so the facts hold of every kind alike. Last, that unused room is never read: tables
+-- that are equal up to it are well formed alike (`well-formed-same`).
 -- Assumes nothing.
-use mathlib.Core.Bool.{true, false, false≢true, not, and-true, and-false}
+use mathlib.Core.Bool.{true, false, false≢true, not}
 use mathlib.Core.List.{List}
 use mathlib.Core.Path.{_≡_, refl, sym, ap, _∙_}
-use mathlib.Mathlib.Data.Bool.Basic.{and-elim-left, and-elim-right, and-intro}
+use mathlib.Mathlib.Data.Bool.Basic.{and-elim-left, and-elim-right}
 use Prim.Native.Nat.{ℕ, _<_, _≤_, _+_}
 use native.Mathlib.Decide.{decLt}
 use native.Mathlib.Omega.{arith}
 use lib.ListN.{length}
-use borrow.Author.Tests.{leb-true, le-leb, lt-leb, ltb-true, lt-ltb, le-ltb, not-true}
+use borrow.Author.Tests.{leb-true, ltb-true, lt-ltb, not-true}
 use Rattle.rules.specs.Basics.{same, every}
 use Rattle.rules.specs.Words.{may-name}
 use Rattle.rules.specs.Numbers.{items-most, labels-most, table-nodes-most}
 use Rattle.rules.specs.Tables.{node-at, item-at, item-count, label-at, label-count, continuation, spelling, spelling-at, is-message, is-choice, SameNode, SameTable}
 use Rattle.rules.specs.Formed.{item-formed, label-formed, label-new, message-formed, choice-formed, formed-by, node-formed, well-formed}
-use Rattle.rules.proofs.Basics.{tests-same, every-true, every-all, every-false, same-refl, same-false}
-use Rattle.rules.proofs.Tables.{same-table-sym}
+use Rattle.rules.proofs.Basics.{tests-same, every-true, every-all, same-refl, same-false}
+use Rattle.rules.proofs.FormedTests.{message-formed-items, label-formed-name, choice-formed-labels, well-formed-nodes}
+use Rattle.rules.proofs.Tables.{same-node-spelling, same-table-sym}
 use Rattle.table.specs.declared.Kind.{Kind}
 use Rattle.table.specs.declared.Kind.the-variants.{End, Receive, Send, Branch, Choose}
 use Rattle.table.specs.declared.Item.{Item}
 use Rattle.table.specs.declared.Item.the-variants.{OfSort, Session}
-use Rattle.table.specs.declared.Label.{Label}
 use Rattle.table.specs.declared.Node.{Node}
 use Rattle.table.specs.declared.Table.{Table}
 
@@ -147,12 +148,9 @@ formed {t} {names} e =
 
 -- The other way.
 message-test : {n : ℕ} {x : Node} → FormedMessage n x → message-formed n x ≡ true
-unfolding message-formed
 message-test {n} {x} f =
-    and-intro
-    (and-intro (le-leb _ _ (f .few-items))
-    (every-all (item-count x) (λ i. item-formed n (item-at x i)) (λ i l. item (item-at x i) (λ k. f .item-links i k l))))
-    (lt-ltb _ _ (f .goes-on))
+    message-formed-items n x (f .few-items) (f .goes-on)
+    ∙ every-all (item-count x) (λ i. item-formed n (item-at x i)) (λ i l. item (item-at x i) (λ k. f .item-links i k l))
   where
     item : (a : Item) → ((k : ℕ) → a ≡ Session k → k < n) → item-formed n a ≡ true
     item (OfSort s) h = refl
@@ -160,19 +158,17 @@ message-test {n} {x} f =
 
 module _ {n : ℕ} {names : List ℕ} {x : Node} where
   choice-test : is-choice (x .kind) ≡ true → FormedChoice n names x → choice-formed n names x ≡ true
-  unfolding choice-formed label-formed label-new
+  unfolding label-new
   choice-test k f =
-      and-intro
-      (and-intro (and-intro (le-leb _ _ (f .some-label k)) (le-leb _ _ (f .few-labels)))
+      choice-formed-labels n names x (f .some-label k) (f .few-labels)
       (every-all (label-count x) (λ i. label-formed n names (label-at x i))
-      (λ i l.
-      and-intro (and-intro (le-leb _ _ (f .label-inside i l)) (f .label-named i l)) (lt-ltb _ _ (f .label-links i l)))))
-      (every-all (label-count x) (label-new x names)
+      (λ i l. label-formed-name n names (label-at x i) (f .label-inside i l) (f .label-links i l) ∙ f .label-named i l))
+      ∙ every-all (label-count x) (label-new x names)
       (λ i l.
       every-all i (λ j. not (same (spelling-at x names i) (spelling-at x names j)))
       (λ j m.
       ap not
-      (same-false _ _ (λ d. let z = f .label-once i j l (omega arith) d in omega arith)))))
+      (same-false _ _ (λ d. let z = f .label-once i j l (omega arith) d in omega arith))))
 
   node-test : FormedNode n names x → node-formed n names x ≡ true
   unfolding node-formed
@@ -185,93 +181,12 @@ module _ {n : ℕ} {names : List ℕ} {x : Node} where
       go Branch e = choice-test (ap is-choice e) (f .choice)
       go Choose e = choice-test (ap is-choice e) (f .choice)
 
--- The tests one at a time: what each of them settles, and what is left when the others pass.
-module _ (n : ℕ) (x : Node) where
-  pub items-many : items-most < item-count x → message-formed n x ≡ false
-  unfolding message-formed
-  items-many l = rw (lt-leb (item-count x) items-most l)
-
-  pub continuation-outside : n ≤ continuation x → message-formed n x ≡ false
-  unfolding message-formed
-  continuation-outside l = rw (le-ltb (continuation x) n l, and-false)
-
-  pub message-items :
-      item-count x ≤ items-most → continuation x < n
-      → message-formed n x ≡ every (item-count x) (λ i. item-formed n (item-at x i))
-  unfolding message-formed
-  message-items l m = rw (le-leb (item-count x) items-most l, lt-ltb (continuation x) n m, and-true)
-
-module _ (n : ℕ) (names : List ℕ) (l : Label) where
-  pub label-outside : length names < l .at + l .len → label-formed n names l ≡ false
-  unfolding label-formed
-  label-outside h = rw (lt-leb (l .at + l .len) (length names) h)
-
-  pub label-leads-outside : n ≤ l .to → label-formed n names l ≡ false
-  unfolding label-formed
-  label-leads-outside h = rw (le-ltb (l .to) n h, and-false)
-
-  pub label-name : l .at + l .len ≤ length names → l .to < n → label-formed n names l ≡ may-name (spelling names l)
-  unfolding label-formed
-  label-name h g = rw (le-leb (l .at + l .len) (length names) h, lt-ltb (l .to) n g, and-true)
-
-module _ (n : ℕ) (names : List ℕ) (x : Node) where
-  pub labels-none : label-count x < 1 → choice-formed n names x ≡ false
-  unfolding choice-formed
-  labels-none h = rw (lt-leb 1 (label-count x) h)
-
-  pub labels-many : labels-most < label-count x → choice-formed n names x ≡ false
-  unfolding choice-formed
-  labels-many h = rw (lt-leb (label-count x) labels-most h, and-false)
-
-  pub label-unformed :
-      every (label-count x) (λ i. label-formed n names (label-at x i)) ≡ false → choice-formed n names x ≡ false
-  unfolding choice-formed
-  label-unformed h = rw (h, and-false)
-
-  pub choice-labels :
-      1 ≤ label-count x → label-count x ≤ labels-most → every (label-count x) (λ i. label-formed n names (label-at x i)) ≡ true
-      → choice-formed n names x ≡ every (label-count x) (label-new x names)
-  unfolding choice-formed
-  choice-labels h g e = rw (le-leb 1 (label-count x) h, le-leb (label-count x) labels-most g, e)
-
-  -- a node is formed as its kind asks
-  pub node-kind : (k : Kind) → x .kind ≡ k → node-formed n names x ≡ formed-by k n names x
-  unfolding node-formed
-  node-kind k e = rw e
-
-module _ (t : Table) (names : List ℕ) where
-  pub nodes-none : t .count < 1 → well-formed t names ≡ false
-  unfolding well-formed
-  nodes-none h = rw (lt-leb 1 (t .count) h)
-
-  pub nodes-many : table-nodes-most < t .count → well-formed t names ≡ false
-  unfolding well-formed
-  nodes-many h = rw (lt-leb (t .count) table-nodes-most h, and-false)
-
-  pub start-outside : t .count ≤ t .start → well-formed t names ≡ false
-  unfolding well-formed
-  start-outside h = rw (le-ltb (t .start) (t .count) h, and-false)
-
-  pub node-unformed :
-      (i : ℕ) → i < t .count → node-formed (t .count) names (node-at t i) ≡ false → well-formed t names ≡ false
-  unfolding well-formed
-  node-unformed i l e =
-      rw (every-false (t .count) (λ i. node-formed (t .count) names (node-at t i)) i l e, and-false)
-
-  pub nodes-formed :
-      1 ≤ t .count → t .count ≤ table-nodes-most → t .start < t .count
-      → ((i : ℕ) → i < t .count → node-formed (t .count) names (node-at t i) ≡ true) → well-formed t names ≡ true
-  unfolding well-formed
-  nodes-formed some few begins each =
-      and-intro (and-intro (and-intro (le-leb _ _ some) (le-leb _ _ few)) (lt-ltb _ _ begins))
-      (every-all (t .count) (λ i. node-formed (t .count) names (node-at t i)) each)
-
 pub formed-true : {t : Table} {names : List ℕ} → WellFormed t names → well-formed t names ≡ true
 formed-true {t} {names} w =
-    nodes-formed t names (w .some-node) (w .few-nodes) (w .begins) (λ i l. node-test (w .each i l))
+    well-formed-nodes t names (w .some-node) (w .few-nodes) (w .begins) (λ i l. node-test (w .each i l))
 
 -- Unused room is never read: nodes, and tables, that say the same are formed alike.
-formed-same-node : {n : ℕ} {names : List ℕ} {x y : Node} → SameNode x y → FormedNode n names x → FormedNode n names y
+pub formed-same-node : {n : ℕ} {names : List ℕ} {x y : Node} → SameNode x y → FormedNode n names x → FormedNode n names y
 formed-same-node {n} {names} {x} {y} S f =
     record {
       message =
@@ -289,7 +204,7 @@ formed-same-node {n} {names} {x} {y} S f =
             label-named = λ i l. rw (← S .each-label i (label i l)) (f .choice .label-named i (label i l));
             label-once =
                 λ i j l m e.
-                f .choice .label-once i j (label i l) (label j m) (spelled i (label i l) ∙ e ∙ sym (spelled j (label j m)));
+                f .choice .label-once i j (label i l) (label j m) (same-node-spelling names S i (label i l) ∙ e ∙ sym (same-node-spelling names S j (label j m)));
           };
     }
   where
@@ -299,10 +214,7 @@ formed-same-node {n} {names} {x} {y} S f =
     label : (i : ℕ) → i < label-count y → i < label-count x
     label i l = omega (arith, S .labels)
 
-    spelled : (i : ℕ) → i < label-count x → spelling-at x names i ≡ spelling-at y names i
-    spelled i l = ap (spelling names) (S .each-label i l)
-
-formed-same : {t u : Table} {names : List ℕ} → SameTable t u → WellFormed t names → WellFormed u names
+pub formed-same : {t u : Table} {names : List ℕ} → SameTable t u → WellFormed t names → WellFormed u names
 formed-same {t} {u} S w =
     record {
       some-node = omega (arith, S .count, w .some-node);

@@ -5,6 +5,7 @@ pub mod Examples
 pub mod Basics
 pub mod Words
 pub mod Tables
+pub mod FormedTests
 pub mod Formed
 pub mod Pairs
 pub mod Steps

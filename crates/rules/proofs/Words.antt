@@ -32,7 +32,7 @@ module _ (b : ℕ) where
   unfolding letter
   letter-behind l = rw (letter, le-leb 65 b (omega arith), lt-leb b 90 (omega arith), le-leb 97 b (omega arith), lt-leb b 122 l)
 
-pub word-bytes-true : (w : List ℕ) → word-bytes w ≡ true → (i : ℕ) → i < length w → word-byte (getD w i 0) ≡ true
+word-bytes-true : (w : List ℕ) → word-bytes w ≡ true → (i : ℕ) → i < length w → word-byte (getD w i 0) ≡ true
 unfolding word-bytes
 word-bytes-true [] e i l = absurd (omega arith)
 word-bytes-true (b ∷ w) e zero l = and-elim-left (word-byte b) (word-bytes w) e
@@ -53,10 +53,10 @@ pub record Word (w : List ℕ) : Type 0 where
   pub begins : letter (getD w 0 0) ≡ true
   pub goes-on : word-bytes (drop 1 w) ≡ true
 
-pub word : {w : List ℕ} → is-word w ≡ true → Word w
+pub word-facts : {w : List ℕ} → is-word w ≡ true → Word w
 unfolding is-word
-word {w = []} e = absurd (false≢true e)
-word {w = b ∷ w} e =
+word-facts {w = []} e = absurd (false≢true e)
+word-facts {w = b ∷ w} e =
     record {
       some-byte = omega arith;
       few-bytes = leb-true _ _ (search (and-elim-left, and-elim-right));
@@ -70,10 +70,10 @@ word-true {w = []} f = absurd (omega (arith, f .some-byte))
 word-true {w = b ∷ w} f = and-intro (and-intro (f .begins) (f .goes-on)) (le-leb _ _ (f .few-bytes))
 
 -- what may be a name: a word that is none of the reserved ones
-pub reserved-no-name : (w : List ℕ) → reserved-position w < length reserved-words → may-name w ≡ false
+pub may-name-reserved : (w : List ℕ) → reserved-position w < length reserved-words → may-name w ≡ false
 unfolding may-name reserved
-reserved-no-name w l = rw (lt-ltb (reserved-position w) (length reserved-words) l) (and-false (is-word w))
+may-name-reserved w l = rw (lt-ltb (reserved-position w) (length reserved-words) l) (and-false (is-word w))
 
-pub word-names : (w : List ℕ) → length reserved-words ≤ reserved-position w → may-name w ≡ is-word w
+pub may-name-word : (w : List ℕ) → length reserved-words ≤ reserved-position w → may-name w ≡ is-word w
 unfolding may-name reserved
-word-names w l = rw (le-ltb (reserved-position w) (length reserved-words) l) (and-true (is-word w))
+may-name-word w l = rw (le-ltb (reserved-position w) (length reserved-words) l) (and-true (is-word w))

@@ -1,2 +1,2 @@
--- What the proofs of several functions use.
+-- What the functions' proofs cite.
 pub mod Reserved

@@ -1,5 +1,7 @@
-// Words: which bytes are blank, which make a word, which words are reserved, and whether two are the same.
-// A word is handed in as a part of the caller's bytes, `&s[a..e]`, and read where it stands; nothing is copied.
+// Bytes and words: which bytes are blank, which make a word, which words are reserved, and whether two words are the same. A word is
+// handed in as a part of the caller's bytes, `&s[a..e]`, and read where it stands; nothing is copied. Each function answers the
+// definition of its name in `rules` (`same_bytes` answers `same`), for any bytes, and asks nothing of its caller. It takes no table and
+// calls no other crate.
 ghost use mathlib.Core.Path.{_≡_};
 ghost use Prim.Native.Nat.{_<_};
 ghost use mathlib.Core.List.{[]};
@@ -10,9 +12,10 @@ ghost use Rattle.rules.specs.Words.{blank, letter, word-byte, word-bytes, is-wo
 // "1 to 16 bytes"
 pub const WORD_MOST: usize = 16;
 
-// "`end`, `string`, `float`, `boolean` and `void` are reserved": one to a row, and how long each is.
+// "`end`, `string`, `float`, `boolean` and `void` are reserved": one to a row, and how much of the row it takes.
 pub const RESERVED_COUNT: usize = 5;
 
+// A row has room for the longest of them, `boolean`.
 const ROW: usize = 7;
 
 const RESERVED_BYTES: [u8; RESERVED_COUNT * ROW] = *b"end    string float  booleanvoid   ";

@@ -1,15 +1,13 @@
 -- `formed::labels_formed` meets its contract: the labels below `i` are formed.
 -- Assumes nothing.
-use borrow.Author.Count.{below-more}
 use borrow.Author.Needs.{needs}
-use borrow.Author.Tests.{not-true, not-false}
 use mathlib.Core.Bool.{true}
-use mathlib.Core.Path.{_≡_, sym, _∙_}
+use mathlib.Core.Path.{_≡_, ap, _∙_}
 use Prim.Native.Nat.{ℕ, _≤_, _<_, _-_}
 use native.Mathlib.Omega.{arith}
 use Rattle.rules.specs.Tables.{label-at}
 use Rattle.rules.specs.Formed.{label-formed}
-use Rattle.rules.proofs.Basics.{every-all, every-false}
+use Rattle.rules.proofs.Basics.{every-stopped, every-passed, every-ended}
 use Rattle.formed.proofs.labels_formed.Statement.{statement}
 use Rattle.formed.proofs.labels_formed.Tie as tie
 
@@ -25,17 +23,15 @@ label-count-requires c κs = search needs
 loop-holds : tie.Need-loop-holds Inv-loop μ-loop
 loop-holds c = (omega arith, λ j l. absurd (omega arith))
 
-mul-l : tie.Need-mul-l Inv-loop μ-loop
-mul-l c = omega arith
-
-element-copy-out-l : tie.Need-element-copy-out-l Inv-loop μ-loop
-element-copy-out-l c = omega arith
+label-at-requires : tie.Need-label-at-requires Inv-loop μ-loop
+label-at-requires c κs = search needs
 
 label-formed-requires : tie.Need-label-formed-requires Inv-loop μ-loop
 label-formed-requires c κs = search needs
 
 returns : tie.Need-returns Inv-loop μ-loop
-returns c = sym (every-false _ _ _ (omega arith) (sym (c .before .label-formed .ensures) ∙ not-true _ (c .if1 .taken)))
+returns c =
+    every-stopped _ _ _ (omega arith) (c .before .label-formed .ensures ∙ ap (label-formed _ _) (c .before .before .label-at .ensures)) (c .if1 .taken)
 
 add-i : tie.Need-add-i Inv-loop μ-loop
 add-i c = omega arith
@@ -44,11 +40,14 @@ loop-less : tie.Need-loop-less Inv-loop μ-loop
 loop-less c = omega arith
 
 loop-again : tie.Need-loop-again Inv-loop μ-loop
-loop-again c =
-    (omega arith, below-more _ _ (c .before .before .before .before .loop .inv .1) (sym (c .before .label-formed .ensures) ∙ not-false _ (c .if1 .left)))
+loop-again c = (
+  omega arith,
+  every-passed _ _ (c .before .before .before .before .loop .inv .1)
+      (c .before .label-formed .ensures ∙ ap (label-formed _ _) (c .before .before .label-at .ensures)) (c .if1 .left),
+)
 
 returns-2 : tie.Need-returns-2 Inv-loop μ-loop
-returns-2 c = sym (every-all _ _ (λ j l. c .before .loop .inv .1 j (omega arith)))
+returns-2 c = every-ended _ _ _ (omega arith) (c .before .loop .inv .1)
 
 pub labels-formed-spec : {M : Type 1} → statement M
 labels-formed-spec =
@@ -58,8 +57,7 @@ labels-formed-spec =
     μ-loop
     label-count-requires
     loop-holds
-    mul-l
-    element-copy-out-l
+    label-at-requires
     label-formed-requires
     returns
     add-i

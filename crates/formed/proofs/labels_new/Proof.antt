@@ -1,14 +1,12 @@
 -- `formed::labels_new` meets its contract: each label below `i` is none of those before it.
 -- Assumes nothing.
-use borrow.Author.Count.{below-more}
 use borrow.Author.Needs.{needs}
-use borrow.Author.Tests.{not-true, not-false}
 use mathlib.Core.Bool.{true}
-use mathlib.Core.Path.{_≡_, sym, _∙_}
+use mathlib.Core.Path.{_≡_}
 use Prim.Native.Nat.{ℕ, _≤_, _<_, _-_}
 use native.Mathlib.Omega.{arith}
 use Rattle.rules.specs.Formed.{label-new}
-use Rattle.rules.proofs.Basics.{every-all, every-false}
+use Rattle.rules.proofs.Basics.{every-stopped, every-passed, every-ended}
 use Rattle.formed.proofs.labels_new.Statement.{statement}
 use Rattle.formed.proofs.labels_new.Tie as tie
 
@@ -25,10 +23,10 @@ loop-holds : tie.Need-loop-holds Inv-loop μ-loop
 loop-holds c = (omega arith, λ j l. absurd (omega arith))
 
 label-new-requires : tie.Need-label-new-requires Inv-loop μ-loop
-label-new-requires c κs = omega arith
+label-new-requires c κs = search needs
 
 returns : tie.Need-returns Inv-loop μ-loop
-returns c = sym (every-false _ _ _ (omega arith) (sym (c .before .label-new .ensures) ∙ not-true _ (c .if1 .taken)))
+returns c = every-stopped _ _ _ (omega arith) (c .before .label-new .ensures) (c .if1 .taken)
 
 add-i : tie.Need-add-i Inv-loop μ-loop
 add-i c = omega arith
@@ -37,11 +35,10 @@ loop-less : tie.Need-loop-less Inv-loop μ-loop
 loop-less c = omega arith
 
 loop-again : tie.Need-loop-again Inv-loop μ-loop
-loop-again c =
-    (omega arith, below-more _ _ (c .before .before .before .loop .inv .1) (sym (c .before .label-new .ensures) ∙ not-false _ (c .if1 .left)))
+loop-again c = (omega arith, every-passed _ _ (c .before .before .before .loop .inv .1) (c .before .label-new .ensures) (c .if1 .left))
 
 returns-2 : tie.Need-returns-2 Inv-loop μ-loop
-returns-2 c = sym (every-all _ _ (λ j l. c .before .loop .inv .1 j (omega arith)))
+returns-2 c = every-ended _ _ _ (omega arith) (c .before .loop .inv .1)
 
 pub labels-new-spec : {M : Type 1} → statement M
 labels-new-spec =

@@ -2,7 +2,7 @@
 -- Assumes nothing.
 use borrow.Author.Needs.{needs}
 use mathlib.Core.Path.{sym, _∙_}
-use Rattle.rules.proofs.Formed.{node-kind}
+use Rattle.rules.proofs.FormedTests.{node-formed-kind}
 use Rattle.formed.proofs.node_formed.Statement.{statement}
 use Rattle.formed.proofs.node_formed.Tie as tie
 
@@ -34,19 +34,19 @@ choice-formed-requires-2 : tie.Need-choice-formed-requires-2
 choice-formed-requires-2 c κs = search needs
 
 returns : tie.Need-returns
-returns c = sym (node-kind _ _ _ _ (c .enum-told .given .1))
+returns c = sym (node-formed-kind _ _ _ _ (c .enum-told .given .1))
 
 returns-2 : tie.Need-returns-2
-returns-2 c = c .message-formed .ensures ∙ sym (node-kind _ _ _ _ (c .before .enum-told2 .given .1))
+returns-2 c = c .message-formed .ensures ∙ sym (node-formed-kind _ _ _ _ (c .before .enum-told2 .given .1))
 
 returns-3 : tie.Need-returns-3
-returns-3 c = c .message-formed2 .ensures ∙ sym (node-kind _ _ _ _ (c .before .enum-told3 .given .1))
+returns-3 c = c .message-formed2 .ensures ∙ sym (node-formed-kind _ _ _ _ (c .before .enum-told3 .given .1))
 
 returns-4 : tie.Need-returns-4
-returns-4 c = c .choice-formed .ensures ∙ sym (node-kind _ _ _ _ (c .before .enum-told4 .given .1))
+returns-4 c = c .choice-formed .ensures ∙ sym (node-formed-kind _ _ _ _ (c .before .enum-told4 .given .1))
 
 returns-5 : tie.Need-returns-5
-returns-5 c = c .choice-formed2 .ensures ∙ sym (node-kind _ _ _ _ (c .before .enum-told5 .given .1))
+returns-5 c = c .choice-formed2 .ensures ∙ sym (node-formed-kind _ _ _ _ (c .before .enum-told5 .given .1))
 
 pub node-formed-spec : {M : Type 1} → statement M
 node-formed-spec =

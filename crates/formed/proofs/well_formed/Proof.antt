@@ -1,15 +1,15 @@
 -- `formed::well_formed` meets its contract: the nodes below `i` are formed.
 -- Assumes nothing.
-use borrow.Author.Count.{below-more}
 use borrow.Author.Needs.{needs}
-use borrow.Author.Tests.{not-true, not-false}
+use borrow.Author.Tests.{not-true}
 use mathlib.Core.Bool.{true}
 use mathlib.Core.Path.{_≡_, sym, _∙_}
 use Prim.Native.Nat.{ℕ, _≤_, _<_, _-_}
 use native.Mathlib.Omega.{arith}
 use Rattle.rules.specs.Tables.{node-at}
 use Rattle.rules.specs.Formed.{node-formed}
-use Rattle.rules.proofs.Formed.{nodes-none, nodes-many, start-outside, node-unformed, nodes-formed}
+use Rattle.rules.proofs.Basics.{every-passed}
+use Rattle.rules.proofs.FormedTests.{well-formed-none, well-formed-many, well-formed-start, well-formed-node, well-formed-nodes}
 use Rattle.formed.proofs.well_formed.Statement.{statement}
 use Rattle.formed.proofs.well_formed.Tie as tie
 
@@ -23,13 +23,13 @@ cast-count : tie.Need-cast-count Inv-loop μ-loop
 cast-count c = search needs
 
 returns : tie.Need-returns Inv-loop μ-loop
-returns c = sym (nodes-none _ _ (omega arith))
+returns c = sym (well-formed-none _ _ (omega arith))
 
 returns-2 : tie.Need-returns-2 Inv-loop μ-loop
-returns-2 c = sym (nodes-many _ _ (omega arith))
+returns-2 c = sym (well-formed-many _ _ (omega arith))
 
 returns-3 : tie.Need-returns-3 Inv-loop μ-loop
-returns-3 c = sym (start-outside _ _ (omega arith))
+returns-3 c = sym (well-formed-start _ _ (omega arith))
 
 loop-holds : tie.Need-loop-holds Inv-loop μ-loop
 loop-holds c = (omega arith, λ j l. absurd (omega arith))
@@ -44,7 +44,7 @@ node-formed-requires : tie.Need-node-formed-requires Inv-loop μ-loop
 node-formed-requires c κs = search needs
 
 returns-4 : tie.Need-returns-4 Inv-loop μ-loop
-returns-4 c = sym (node-unformed _ _ _ (omega arith) (sym (c .before .node-formed .ensures) ∙ not-true _ (c .if4 .taken)))
+returns-4 c = sym (well-formed-node _ _ _ (omega arith) (sym (c .before .node-formed .ensures) ∙ not-true _ (c .if4 .taken)))
 
 add-i : tie.Need-add-i Inv-loop μ-loop
 add-i c = omega arith
@@ -53,14 +53,12 @@ loop-less : tie.Need-loop-less Inv-loop μ-loop
 loop-less c = omega arith
 
 loop-again : tie.Need-loop-again Inv-loop μ-loop
-loop-again c = (
-  omega arith,
-  below-more _ _ (c .before .before .before .before .loop .inv .1) (sym (c .before .node-formed .ensures) ∙ not-false _ (c .if4 .left)),
-)
+loop-again c =
+    (omega arith, every-passed _ _ (c .before .before .before .before .loop .inv .1) (c .before .node-formed .ensures) (c .if4 .left))
 
 returns-5 : tie.Need-returns-5 Inv-loop μ-loop
 returns-5 c =
-    sym (nodes-formed _ _ (omega arith) (omega arith) (omega arith) (λ j l. c .before .loop .inv .1 j (omega arith)))
+    sym (well-formed-nodes _ _ (omega arith) (omega arith) (omega arith) (λ j l. c .before .loop .inv .1 j (omega arith)))
 
 pub well-formed-spec : {M : Type 1} → statement M
 well-formed-spec =

@@ -7,7 +7,7 @@ use native.Mathlib.Nat.{add-sub-cancel-left}
 use native.Mathlib.Omega.{arith}
 use lib.ListN.{getD}
 use Rattle.rules.specs.Basics.{part, same}
-use Rattle.words.proofs.Reserved.{table, lengths, row-fits, row-word}
+use Rattle.words.proofs.Reserved.{row, reserved-bytes, reserved-lengths, row-fits, row-word}
 use Rattle.words.proofs.is_reserved_at.Statement.{statement}
 use Rattle.words.proofs.is_reserved_at.Tie as tie
 
@@ -39,7 +39,7 @@ returns : tie.Need-returns
 returns c =
     let k : ℕ = c .before .before .before .before .args .k in
     c .same-bytes .ensures
-    ∙ ap (same _) (ap (part table (k * 7)) (add-sub-cancel-left (k * 7) (getD lengths k 0)) ∙ row-word k (c .before .before .before .before .pre))
+    ∙ ap (same _) (ap (part reserved-bytes (k * row)) (add-sub-cancel-left (k * row) (getD reserved-lengths k 0)) ∙ row-word k (c .before .before .before .before .pre))
 
 pub is-reserved-at-spec : {M : Type 1} → statement M
 is-reserved-at-spec =

@@ -12,15 +12,15 @@ use lib.ListN.{length, drop}
 use Rattle.rules.specs.Basics.{part}
 use Rattle.rules.specs.Words.{word-bytes}
 use Rattle.rules.proofs.Basics.{tests-same, part-cut}
-use Rattle.rules.proofs.Words.{word, word-true}
+use Rattle.rules.proofs.Words.{word-facts, word-true}
 use Rattle.words.proofs.is_word.Statement.{statement}
 use Rattle.words.proofs.is_word.Tie as tie
 
 returns : tie.Need-returns
-returns c = sym (bool-eq-false (λ e. omega (arith, word e .some-byte)))
+returns c = sym (bool-eq-false (λ e. omega (arith, word-facts e .some-byte)))
 
 returns-2 : tie.Need-returns-2
-returns-2 c = sym (bool-eq-false (λ e. omega (arith, word e .few-bytes)))
+returns-2 c = sym (bool-eq-false (λ e. omega (arith, word-facts e .few-bytes)))
 
 shared-slice-read-is-letter : tie.Need-shared-slice-read-is-letter
 shared-slice-read-is-letter c = search needs
@@ -33,7 +33,7 @@ returns-3 c =
     sym
     (bool-eq-false
     (λ e.
-    false≢true (sym (sym (c .before .is-letter .ensures) ∙ not-true _ (c .if3 .taken)) ∙ word e .begins)))
+    false≢true (sym (sym (c .before .is-letter .ensures) ∙ not-true _ (c .if3 .taken)) ∙ word-facts e .begins)))
 
 sub-word-bytes : tie.Need-sub-word-bytes
 sub-word-bytes c = search needs
@@ -61,7 +61,7 @@ returns-4 c =
       begins = sym (c .before .before .before .is-letter .ensures) ∙ not-false _ (c .before .before .if3 .left);
       goes-on = sym (ap word-bytes rest) ∙ e;
     }))
-    (λ e. ap word-bytes rest ∙ word e .goes-on)
+    (λ e. ap word-bytes rest ∙ word-facts e .goes-on)
 
 pub is-word-spec : {M : Type 1} → statement M
 is-word-spec =

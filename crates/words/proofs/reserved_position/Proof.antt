@@ -6,7 +6,7 @@ use mathlib.Core.List.{[]}
 use mathlib.Core.Path.{_≡_, sym, _∙_}
 use Prim.Native.Nat.{ℕ, _≤_, _<_, _-_}
 use native.Mathlib.Omega.{arith}
-use lib.ListN.{getD}
+use lib.ListN.{length, getD}
 use Rattle.rules.specs.Basics.{same}
 use Rattle.rules.specs.Words.{reserved-words, reserved-position}
 use Rattle.rules.proofs.Basics.{first-here, first-nowhere}
@@ -14,10 +14,10 @@ use Rattle.words.proofs.reserved_position.Statement.{statement}
 use Rattle.words.proofs.reserved_position.Tie as tie
 
 abbrev Inv-loop : tie.InvT-loop
-Inv-loop w k₀ k = (k ≤ 5) × ((j : ℕ) → j < k → same w (getD reserved-words j []) ≡ false)
+Inv-loop w k₀ k = (k ≤ length reserved-words) × ((j : ℕ) → j < k → same w (getD reserved-words j []) ≡ false)
 
 abbrev μ-loop : tie.MeasureT-loop
-μ-loop w k₀ k = 5 - k
+μ-loop w k₀ k = length reserved-words - k
 
 loop-holds : tie.Need-loop-holds Inv-loop μ-loop
 loop-holds c = (omega arith, λ j l. absurd (omega arith))

@@ -1,4 +1,4 @@
--- `formed::nodes::spelled` meets its contract: a part that would go past the name bytes is cut where they end.
+-- `nodes::spelling` meets its contract: a part that would go past the name bytes is cut where they end.
 -- Assumes nothing.
 use borrow.Author.Needs.{needs}
 use mathlib.Core.List.{List}
@@ -7,16 +7,16 @@ use Prim.Native.Nat.{ℕ, _-_}
 use native.Mathlib.Nat.{add-sub-cancel-left}
 use native.Mathlib.Omega.{arith}
 use lib.ListN.{length}
-use Rattle.table.specs.declared.Label.{Label}
 use Rattle.rules.proofs.Basics.{part-cut, part-none}
-use Rattle.formed.proofs.nodes.spelled.Statement.{statement}
-use Rattle.formed.proofs.nodes.spelled.Tie as tie
+use Rattle.table.specs.declared.Label.{Label}
+use Rattle.nodes.proofs.spelling.Statement.{statement}
+use Rattle.nodes.proofs.spelling.Tie as tie
 
-wide-place-requires : tie.Need-wide-place-requires
-wide-place-requires c κs = search needs
+cast-at : tie.Need-cast-at
+cast-at c = search needs
 
-end-of-requires : tie.Need-end-of-requires
-end-of-requires c κs = search needs
+label-end-requires : tie.Need-label-end-requires
+label-end-requires c κs = search needs
 
 sub-result : tie.Need-sub-result
 sub-result c = search needs
@@ -28,7 +28,7 @@ part-result-end : tie.Need-part-result-end
 part-result-end c = search needs
 
 returns : tie.Need-returns
-returns c = rw (c .before .before .end-of .ensures, c .before .before .before .wide-place .ensures, add-sub-cancel-left)
+returns c = rw (c .before .before .label-end .ensures, add-sub-cancel-left)
 
 sub-result-2 : tie.Need-sub-result-2
 sub-result-2 c = search needs
@@ -43,8 +43,7 @@ returns-2 : tie.Need-returns-2
 returns-2 c =
     let names : List ℕ = c .before .before .before .before .before .before .args .names .now in
     let l : Label = c .before .before .before .before .before .before .args .l in
-    rw (c .before .before .before .before .wide-place .ensures)
-    (part-cut names (l .at) (length names - l .at) (omega arith) ∙ sym (part-cut names (l .at) (l .len) (omega arith)))
+    part-cut names (l .at) (length names - l .at) (omega arith) ∙ sym (part-cut names (l .at) (l .len) (omega arith))
 
 sub-result-3 : tie.Need-sub-result-3
 sub-result-3 c = search needs
@@ -61,12 +60,12 @@ returns-3 c =
     let l : Label = c .before .before .before .before .before .before .args .l in
     part-none names (length names) (length names - length names) (omega arith) ∙ sym (part-none names (l .at) (l .len) (omega arith))
 
-pub spelled-spec : {M : Type 1} → statement M
-spelled-spec =
+pub spelling-spec : {M : Type 1} → statement M
+spelling-spec =
     tie.close
     (tie.spec
-    wide-place-requires
-    end-of-requires
+    cast-at
+    label-end-requires
     sub-result
     part-result-start
     part-result-end
