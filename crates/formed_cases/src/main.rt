@@ -21,17 +21,6 @@ fn tell(what: &[u8], t: Table, names: &[u8]) {
     }
 }
 
-// A table of one node, which starts there. Every node past the count is rubbish.
-fn alone(x: Node) -> Table {
-    let mut nodes = [rubbish(Kind::Choose); NODES_MOST];
-    nodes[0] = x;
-    Table {
-        nodes,
-        count: 1,
-        start: 0,
-    }
-}
-
 // A node whose every number is as large as it can be.
 fn rubbish(kind: Kind) -> Node {
     let label = Label {
@@ -52,6 +41,25 @@ fn rubbish(kind: Kind) -> Node {
     }
 }
 
+// A table of two nodes, which starts at the first. Every node past the count is rubbish.
+fn pair(x: Node, y: Node) -> Table {
+    let mut nodes = [rubbish(Kind::Choose); NODES_MOST];
+    nodes[0] = x;
+    nodes[1] = y;
+    Table {
+        nodes,
+        count: 2,
+        start: 0,
+    }
+}
+
+// A table of one node.
+fn alone(x: Node) -> Table {
+    let mut t = pair(x, rubbish(Kind::Send));
+    t.count = 1;
+    t
+}
+
 // A message of `count` items, all of them `item`.
 fn message(kind: Kind, item: Item, count: u8, next: u8) -> Node {
     let r = rubbish(kind);
@@ -67,7 +75,7 @@ fn message(kind: Kind, item: Item, count: u8, next: u8) -> Node {
     }
 }
 
-// A choice of `count` labels: one byte each, at 0, 1 and so on.
+// A choice of `count` labels: one byte each, at 0, 1 and so on, all of them to node 0.
 fn choice(kind: Kind, count: u8) -> Node {
     let r = rubbish(kind);
     let items = r.items;
@@ -101,10 +109,27 @@ fn labelled(at: u16, len: u8, to: u8) -> Node {
 // A table of one choice of one label, which is all of `name`.
 fn named(name: &[u8]) {
     let n = name.len();
-    io::write_all(1, b"label ");
     if n <= 255 {
+        io::write_all(1, b"label ");
         tell(name, alone(labelled(0, n as u8, 0)), name);
     }
+}
+
+// A table of one choice of two labels, the first four bytes and the `len` bytes from `at` on.
+fn beside(what: &[u8], at: u16, len: u8, names: &[u8]) {
+    let mut x = choice(Kind::Choose, 2);
+    x.labels[0] = Label {
+        at: 0,
+        len: 4,
+        to: 0,
+    };
+    x.labels[1] = Label { at, len, to: 0 };
+    tell(what, alone(x), names);
+}
+
+// A table of one choice of 16 labels of one byte each.
+fn sixteen(what: &[u8], names: &[u8]) {
+    tell(what, alone(choice(Kind::Branch, 16)), names);
 }
 
 fn counts() {
@@ -127,7 +152,7 @@ fn counts() {
     tell(b"255 nodes", t, b"");
 }
 
-fn messages() {
+fn items() {
     let sort = Item::OfSort(Sort::Void);
     tell(b"0 items", alone(message(Kind::Receive, sort, 0, 0)), b"");
     tell(b"4 items", alone(message(Kind::Send, sort, 4, 0)), b"");
@@ -138,23 +163,59 @@ fn messages() {
         b"",
     );
     tell(
-        b"continuation 1 of 1",
-        alone(message(Kind::Receive, sort, 1, 1)),
-        b"",
-    );
-    tell(
-        b"item 0 of 1",
+        b"item to 0 of 1",
         alone(message(Kind::Receive, Item::Session(0), 4, 0)),
         b"",
     );
     tell(
-        b"item 1 of 1",
+        b"item to 1 of 1",
         alone(message(Kind::Receive, Item::Session(1), 1, 0)),
         b"",
     );
     tell(
-        b"item 255 of 1",
+        b"item to 255 of 1",
         alone(message(Kind::Send, Item::Session(255), 4, 0)),
+        b"",
+    );
+    let mut x = message(Kind::Send, sort, 4, 0);
+    x.items[3] = Slot {
+        item: Item::Session(0),
+    };
+    tell(b"sorts and an item to 0 of 1", alone(x), b"");
+    x.items[3] = Slot {
+        item: Item::Session(1),
+    };
+    tell(b"sorts and an item to 1 of 1", alone(x), b"");
+}
+
+fn links() {
+    let end = rubbish(Kind::End);
+    let sort = Item::OfSort(Sort::Float);
+    tell(
+        b"continuation to 1 of 1",
+        alone(message(Kind::Receive, sort, 1, 1)),
+        b"",
+    );
+    tell(
+        b"continuation to 1 of 2",
+        pair(message(Kind::Receive, sort, 1, 1), end),
+        b"",
+    );
+    tell(
+        b"continuation to 2 of 2",
+        pair(message(Kind::Send, sort, 1, 2), end),
+        b"",
+    );
+    tell(b"label to 1 of 1", alone(labelled(0, 2, 1)), b"ok");
+    tell(b"label to 1 of 2", pair(labelled(0, 2, 1), end), b"ok");
+    tell(
+        b"a node that nothing reaches",
+        pair(end, message(Kind::Send, sort, 1, 0)),
+        b"",
+    );
+    tell(
+        b"5 items in a node that nothing reaches",
+        pair(end, message(Kind::Send, sort, 5, 0)),
         b"",
     );
 }
@@ -185,13 +246,11 @@ fn choices() {
         alone(choice(Kind::Branch, 255)),
         b"abcdefghijklmnop",
     );
-    tell(
-        b"16 labels, 15 name bytes",
-        alone(choice(Kind::Branch, 16)),
-        b"abcdefghijklmno",
-    );
-    tell(b"no name bytes", alone(choice(Kind::Branch, 1)), b"");
-    tell(b"label to 1 of 1", alone(labelled(0, 2, 1)), b"ok");
+}
+
+fn places() {
+    sixteen(b"16 labels, 15 name bytes", b"abcdefghijklmno");
+    sixteen(b"no name bytes", b"");
     tell(b"label at the end", alone(labelled(1, 2, 0)), b"-ok");
     tell(b"label one past the end", alone(labelled(1, 3, 0)), b"-ok");
     tell(b"label behind the end", alone(labelled(4, 0, 0)), b"-ok");
@@ -205,60 +264,57 @@ fn choices() {
         alone(labelled(2, 2, 0)),
         b"unknown",
     );
+    tell(
+        b"reserved at the front of a longer word",
+        alone(labelled(0, 3, 0)),
+        b"ends",
+    );
+    tell(
+        b"reserved at the end of a longer word",
+        alone(labelled(1, 3, 0)),
+        b"send",
+    );
 }
 
 fn twice() {
-    tell(
-        b"first and second the same",
-        alone(choice(Kind::Branch, 16)),
-        b"aacdefghijklmnop",
-    );
-    tell(
-        b"first and last the same",
-        alone(choice(Kind::Choose, 16)),
-        b"abcdefghijklmnoa",
-    );
-    tell(
-        b"seventh and twelfth the same",
-        alone(choice(Kind::Branch, 16)),
-        b"abcdefghijkgmnop",
-    );
-    tell(
-        b"the same in the other case",
-        alone(choice(Kind::Choose, 16)),
-        b"abcdefghijklmnoA",
-    );
-    let mut x = choice(Kind::Choose, 2);
-    x.labels[0] = Label {
-        at: 0,
-        len: 4,
-        to: 0,
-    };
-    x.labels[1] = Label {
-        at: 0,
-        len: 3,
-        to: 0,
-    };
-    tell(b"one the other's beginning", alone(x), b"stop");
-    x.labels[1] = Label {
-        at: 4,
-        len: 4,
-        to: 0,
-    };
-    tell(b"twice at two places", alone(x), b"stopstop");
-    tell(b"another at two places", alone(x), b"stopstep");
+    sixteen(b"first and second the same", b"aacdefghijklmnop");
+    sixteen(b"first and last the same", b"abcdefghijklmnoa");
+    sixteen(b"seventh and twelfth the same", b"abcdefghijkgmnop");
+    sixteen(b"the same in the other case", b"abcdefghijklmnoA");
+    beside(b"one the other's front", 0, 3, b"stop");
+    beside(b"the same place twice", 0, 4, b"stop");
+    beside(b"the same at two places", 4, 4, b"stopstop");
+    beside(b"another at two places", 4, 4, b"stopstep");
+    let x = choice(Kind::Branch, 2);
+    tell(b"the same in two choices", pair(x, x), b"ab");
 }
 
-fn words() {
+fn bytes() {
+    let x = alone(labelled(0, 2, 0));
+    tell(b"byte 0", x, b"a\x00");
+    tell(b"space", x, b"a ");
+    tell(b"before the digits", x, b"a/");
+    tell(b"behind the digits", x, b"a:");
+    tell(b"before the capitals", x, b"a@");
+    tell(b"behind the capitals", x, b"a[");
+    tell(b"before the small letters", x, b"a`");
+    tell(b"behind the small letters", x, b"a{");
+    tell(b"byte 128", x, b"a\x80");
+    tell(b"byte 255", x, b"a\xff");
+}
+
+fn spellings() {
     named(b"");
     named(b"a");
     named(b"Z9_");
+    named(b"z0A");
     named(b"_a");
     named(b"9a");
-    named(b"a-b");
-    named(b"a b");
     named(b"sixteen_bytes_ok");
     named(b"seventeen_bytes__");
+}
+
+fn reserved() {
     named(b"end");
     named(b"string");
     named(b"float");
@@ -269,13 +325,16 @@ fn words() {
     named(b"en");
     named(b"ends");
     named(b"booleans");
-    named(b"late");
 }
 
 fn main() {
     counts();
-    messages();
+    items();
+    links();
     choices();
+    places();
     twice();
-    words();
+    bytes();
+    spellings();
+    reserved();
 }

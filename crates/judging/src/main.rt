@@ -11,17 +11,22 @@ use table::Node;
 use table::Slot;
 use table::Sort;
 use table::Table;
+use words::WORD_MOST;
 ghost use mathlib.Core.Path.{_≡_};
 ghost use Prim.Native.Nat.{_<_};
 ghost use lib.ListN.{length};
+ghost use Rattle.rules.specs.Numbers.{table-nodes-most};
 
 const ROUNDS: usize = 10000;
 
-// What a choice's labels are spelled with. Two of them differ in their last byte alone, so that to compare them takes longest.
-const SPELLED: [u8; 256] =
-    *b"command_number_0command_number_1command_number_2command_number_3command_number_4command_number_5command_number_6command_number_7command_number_8command_number_9command_number_acommand_number_bcommand_number_ccommand_number_dcommand_number_ecommand_number_f";
+// The name bytes of one choice, and of all.
+const CHOICE: usize = LABELS_MOST * WORD_MOST;
 
-const NAMES: usize = 32768;
+const NAMES: usize = NODES_MOST * CHOICE;
+
+// Two of a choice's labels differ in their last byte alone, so that to compare them takes longest.
+const SPELLED: [u8; CHOICE] =
+    *b"command_number_0command_number_1command_number_2command_number_3command_number_4command_number_5command_number_6command_number_7command_number_8command_number_9command_number_acommand_number_bcommand_number_ccommand_number_dcommand_number_ecommand_number_f";
 
 fn many_names() -> [u8; NAMES]
     ensures { λ r. ⌜ 32768 ≡ length r ⌝ }
@@ -29,14 +34,14 @@ fn many_names() -> [u8; NAMES]
     let mut names = [0u8; NAMES];
     let mut i = 0;
     while i < NAMES {
-        names[i] = SPELLED[i % 256];
+        names[i] = SPELLED[i % CHOICE];
         i += 1;
     }
     names
 }
 
 fn choice(node: usize) -> Node
-    requires { ⌜ node < 128 ⌝ }
+    requires { ⌜ node < table-nodes-most ⌝ }
 {
     let mut labels = [Label {
         at: 0,
@@ -46,21 +51,20 @@ fn choice(node: usize) -> Node
     let mut i = 0;
     while i < LABELS_MOST {
         labels[i] = Label {
-            at: (node * 256 + i * 16) as u16,
-            len: 16,
+            at: (node * CHOICE + i * WORD_MOST) as u16,
+            len: WORD_MOST as u8,
             to: node as u8,
         };
         i += 1;
     }
-    let items = [Slot {
-        item: Item::OfSort(Sort::String),
-    }; ITEMS_MOST];
     Node {
         kind: Kind::Choose,
-        items,
+        items: [Slot {
+            item: Item::OfSort(Sort::String),
+        }; ITEMS_MOST],
         item_count: 0,
         labels,
-        label_count: 16,
+        label_count: LABELS_MOST as u8,
         next: 0,
     }
 }
@@ -74,9 +78,14 @@ fn largest() -> Table {
     }
     Table {
         nodes,
-        count: 128,
+        count: NODES_MOST as u8,
         start: 0,
     }
+}
+
+// The first letter of the names in a round.
+fn first_letter(round: usize) -> u8 {
+    if round % 2 == 0 { b'c' } else { b'C' }
 }
 
 fn main() {
@@ -86,8 +95,8 @@ fn main() {
     let mut round = 0;
     while round < ROUNDS {
         // another table and other bytes each time, so that nothing is judged once for all
-        t.start = (round % 128) as u8;
-        names[0] = (67 + round % 2 * 32) as u8;
+        t.start = (round % NODES_MOST) as u8;
+        names[0] = first_letter(round);
         if well_formed(t, &names) {
             good += 1;
         }

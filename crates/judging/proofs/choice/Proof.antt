@@ -14,14 +14,17 @@ abbrev μ-loop : tie.MeasureT-loop
 loop-holds : tie.Need-loop-holds Inv-loop μ-loop
 loop-holds c = search needs
 
+mul-t6 : tie.Need-mul-t6 Inv-loop μ-loop
+mul-t6 c = search needs
+
 mul-t7 : tie.Need-mul-t7 Inv-loop μ-loop
 mul-t7 c = search needs
 
-mul-t8 : tie.Need-mul-t8 Inv-loop μ-loop
-mul-t8 c = search needs
+add-t8 : tie.Need-add-t8 Inv-loop μ-loop
+add-t8 c = search needs
 
-add-t9 : tie.Need-add-t9 Inv-loop μ-loop
-add-t9 c = search needs
+cast-t9 : tie.Need-cast-t9 Inv-loop μ-loop
+cast-t9 c = search needs
 
 cast-t10 : tie.Need-cast-t10 Inv-loop μ-loop
 cast-t10 c = search needs
@@ -44,6 +47,9 @@ loop-less c = search needs
 loop-again : tie.Need-loop-again Inv-loop μ-loop
 loop-again c = search needs
 
+cast-t22 : tie.Need-cast-t22 Inv-loop μ-loop
+cast-t22 c = search needs
+
 returns : tie.Need-returns Inv-loop μ-loop
 returns c = search needs
 
@@ -54,9 +60,10 @@ choice-spec =
     Inv-loop
     μ-loop
     loop-holds
+    mul-t6
     mul-t7
-    mul-t8
-    add-t9
+    add-t8
+    cast-t9
     cast-t10
     cast-t11
     mul-labels
@@ -64,4 +71,5 @@ choice-spec =
     add-i
     loop-less
     loop-again
+    cast-t22
     returns)

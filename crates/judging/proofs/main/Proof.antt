@@ -27,14 +27,8 @@ loop-holds c = search needs
 cast-t : tie.Need-cast-t Inv-loop μ-loop
 cast-t c = search needs
 
-mul-names : tie.Need-mul-names Inv-loop μ-loop
-mul-names c = search needs
-
-add-names : tie.Need-add-names Inv-loop μ-loop
-add-names c = search needs
-
-cast-names : tie.Need-cast-names Inv-loop μ-loop
-cast-names c = search needs
+first-letter-requires : tie.Need-first-letter-requires Inv-loop μ-loop
+first-letter-requires c κs = search needs
 
 array-write-names : tie.Need-array-write-names Inv-loop μ-loop
 array-write-names c = search needs
@@ -79,9 +73,7 @@ main-spec =
     many-names-requires
     loop-holds
     cast-t
-    mul-names
-    add-names
-    cast-names
+    first-letter-requires
     array-write-names
     slice-aggregate-well-formed
     well-formed-requires
