@@ -1,5 +1,6 @@
-// What is read of a node: its kind, and of the rest only what its kind and its counts leave in use. Each function answers the
-// definition of its name in `rules`, for any node and any name bytes, and asks nothing of its caller. It calls no other crate.
+// What is read of a node: its kind, the counts and the continuation that its kind has, an item or a label at a position, and a label's
+// bytes. Each function answers the definition of its name in `rules`, for any node and any name bytes, and asks nothing of its caller;
+// `label_end` is plain arithmetic. Whoever asks for items and labels below their counts reads no unused room. It calls no other crate.
 use table::ITEMS_MOST;
 use table::Item;
 use table::Kind;

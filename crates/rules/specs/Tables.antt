@@ -1,5 +1,5 @@
--- Document 01, "The table": what a table says. Whatever is read of a node is its kind, or one of the functions below, so room that a
--- node's kind or the counts leave unused is never read.
+-- Document 01, "The table": what a table says. Whatever is read of a node is its kind, or one of the functions below, and items and labels
+-- count only below their counts; so room that a node's kind or the counts leave unused is never read.
 -- Assumes nothing.
 use mathlib.Core.Bool.{Bool, true, false}
 use mathlib.Core.List.{List, []}

@@ -1,8 +1,9 @@
 -- `words::is_reserved_at` meets its contract: a row of the table is its reserved word.
 -- Assumes nothing.
 use borrow.Author.Needs.{needs}
-use mathlib.Core.Path.{ap, _∙_}
-use Prim.Native.Nat.{ℕ, _*_}
+use mathlib.Core.List.{List}
+use mathlib.Core.Path.{_≡_, ap, _∙_}
+use Prim.Native.Nat.{ℕ, _+_, _-_, _*_}
 use native.Mathlib.Nat.{add-sub-cancel-left}
 use native.Mathlib.Omega.{arith}
 use lib.ListN.{getD}
@@ -37,9 +38,14 @@ same-bytes-requires c κs = search needs
 
 returns : tie.Need-returns
 returns c =
+    let w : List ℕ = c .before .before .before .before .args .w .now in
     let k : ℕ = c .before .before .before .before .args .k in
-    c .same-bytes .ensures
-    ∙ ap (same _) (ap (part reserved-bytes (k * row)) (add-sub-cancel-left (k * row) (getD reserved-lengths k 0)) ∙ row-word k (c .before .before .before .before .pre))
+    let told : c .same-bytes .result ≡ same w (part reserved-bytes (k * row) (k * row + getD reserved-lengths k 0 - k * row)) =
+    c .same-bytes .ensures in
+    told
+    ∙ ap (same w)
+    (ap (part reserved-bytes (k * row)) (add-sub-cancel-left (k * row) (getD reserved-lengths k 0))
+    ∙ row-word k (c .before .before .before .before .pre))
 
 pub is-reserved-at-spec : {M : Type 1} → statement M
 is-reserved-at-spec =
