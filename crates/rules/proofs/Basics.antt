@@ -7,10 +7,11 @@ use mathlib.Core.Path.{_≡_, refl, sym, ap, ap₂, _∙_}
 use mathlib.Mathlib.Data.Bool.Basic.{bool-eq-false}
 use Prim.Native.Nat.{ℕ, zero, suc, _+_, _<_, _≤_}
 use native.Mathlib.Decide.{decLt}
+use native.Mathlib.Nat.{min-eq-left}
 use native.Mathlib.Omega.{arith}
 use lib.Dec.{eqb}
-use lib.ListN.{length, getD, drop, length-drop, drop-of-length-le}
-use lib.Seq.{ext-getD, take-all}
+use lib.ListN.{length, getD, drop, length-drop, drop-of-length-le, length-take}
+use lib.Seq.{ext-getD, take-all, getD-take, getD-drop}
 use borrow.Author.Count.{below-more}
 use borrow.Author.Tests.{eqb-true, eq-eqb, ltb-true, lt-ltb, not-true, not-false}
 use Rattle.rules.specs.Basics.{part, same, every, first, some-below}
@@ -138,3 +139,9 @@ part-cut s at n l = take-all n (drop at s) (omega (arith, length-drop at s))
 
 pub part-none : (s : List ℕ) (at n : ℕ) → length s ≤ at → part s at n ≡ []
 part-none s at n l = part-cut s at n (omega arith) ∙ drop-of-length-le s l
+
+pub part-length : (s : List ℕ) (at n : ℕ) → at + n ≤ length s → length (part s at n) ≡ n
+part-length s at n l = length-take n (drop at s) ∙ min-eq-left (omega (arith, length-drop at s))
+
+pub part-at : (s : List ℕ) (at n i : ℕ) → i < n → getD (part s at n) i 0 ≡ getD s (at + i) 0
+part-at s at n i l = getD-take n (drop at s) i 0 l ∙ getD-drop at s i 0

@@ -67,7 +67,7 @@ message-facts {n} {x} e =
       goes-on = ltb-true _ _ (search (and-elim-left, and-elim-right));
     }
 
-no-message : {n : ℕ} {x : Node} → 1 ≤ n → is-message (x .kind) ≡ false → FormedMessage n x
+pub no-message : {n : ℕ} {x : Node} → 1 ≤ n → is-message (x .kind) ≡ false → FormedMessage n x
 no-message {n} {x} l e =
     let z : item-count x ≡ 0 = rw e in
     let c : continuation x ≡ 0 = rw e in
@@ -109,7 +109,7 @@ module _ {n : ℕ} {names : List ℕ} {x : Node} where
       label : (i : ℕ) → i < label-count x → label-formed n names (label-at x i) ≡ true
       label = every-true (label-count x) (λ i. label-formed n names (label-at x i)) (search (and-elim-left, and-elim-right))
 
-  no-choice : is-choice (x .kind) ≡ false → FormedChoice n names x
+  pub no-choice : is-choice (x .kind) ≡ false → FormedChoice n names x
   no-choice e =
       let z : label-count x ≡ 0 = rw e in
       record {

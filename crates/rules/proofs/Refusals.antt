@@ -22,11 +22,11 @@ group-first : group text-too-long ≡ text-too-long
 unfolding group
 group-first = refl
 
-group-middle : (n : ℕ) → unexpected ≤ n → n ≤ name-twice → group n ≡ name-twice
+pub group-middle : (n : ℕ) → unexpected ≤ n → n ≤ name-twice → group n ≡ name-twice
 unfolding group
 group-middle n a b = rw (group, lt-leb n 1 (omega arith), le-leb n 7 b)
 
-group-late : (n : ℕ) → name-twice < n → group n ≡ n
+pub group-late : (n : ℕ) → name-twice < n → group n ≡ n
 unfolding group
 group-late n a = rw (group, lt-leb n 1 (omega arith), lt-leb n 7 a)
 

@@ -4,10 +4,10 @@ use mathlib.Core.List.{List, [], _∷_, _++_}
 use mathlib.Core.Path.{_≡_, refl}
 use Prim.Native.Nat.{ℕ}
 use Prim.Native.String.{String}
+use Rattle.rules.proofs.Agreement.{reads-reading}
 use Rattle.rules.proofs.Computes.{computes}
 use Rattle.rules.specs.Basics.{bytes}
-use Rattle.rules.specs.Replies.{refused}
-use Rattle.rules.specs.computed.Reading.{reading}
+use Rattle.rules.specs.Replies.{Reads, refused}
 use Rattle.rules.specs.computed.Line.{printed}
 
 pub data Row : Type 0 where
@@ -16,9 +16,10 @@ pub data Row : Type 0 where
   -- a text, and its refusal's number and place
   read : String → ℕ → ℕ → Row
 
+-- a text's row says what the declared reading replies; a line's row, so far, what the twin prints
 abbrev pub Holds : Row → Type 0
 Holds (compared new old line) = printed (bytes new ++ (0 ∷ bytes old)) ≡ bytes line
-Holds (read text number place) = reading (bytes text) ≡ refused number place
+Holds (read text number place) = Reads (bytes text) (refused number place)
 
 abbrev pub AllHold : List Row → Type 0
 AllHold [] = Unit {0}
@@ -57,4 +58,5 @@ starred =
 
 pub starred-hold : AllHold starred
 unfolding computes starred
-starred-hold = (refl, (refl, (refl, (refl, (refl, (refl, (refl, (refl, (refl, (refl, (refl, (refl, tt))))))))))))
+starred-hold =
+    (refl, (refl, (refl, (refl, (refl, (refl, (refl, (refl, (refl, (reads-reading _, (reads-reading _, (reads-reading _, tt))))))))))))

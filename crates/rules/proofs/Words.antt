@@ -8,6 +8,9 @@ use Prim.Native.Nat.{ℕ, zero, suc, _<_, _≤_}
 use native.Mathlib.Omega.{arith}
 use borrow.Author.Tests.{leb-true, le-leb, lt-leb, lt-ltb, le-ltb}
 use lib.ListN.{length, getD, drop}
+use lib.Dec.{leb}
+use Rattle.rules.specs.Basics.{same, every}
+use Rattle.rules.proofs.Basics.{first-found, every-true, same-true}
 use Rattle.rules.specs.Words.{letter, word-byte, word-bytes, word-most, is-word, reserved-words, reserved-position, reserved, may-name}
 
 -- a letter, by where a byte stands among the letters
@@ -77,3 +80,15 @@ may-name-reserved w l = rw (lt-ltb (reserved-position w) (length reserved-words)
 pub may-name-word : (w : List ℕ) → length reserved-words ≤ reserved-position w → may-name w ≡ is-word w
 unfolding may-name reserved
 may-name-word w l = rw (le-ltb (reserved-position w) (length reserved-words) l) (and-true (is-word w))
+
+-- a reserved word is short
+reserved-lengths : every (length reserved-words) (λ i. leb (length (getD reserved-words i [])) word-most) ≡ true
+unfolding every
+reserved-lengths = refl
+
+pub reserved-short : (w : List ℕ) → reserved-position w < length reserved-words → length w ≤ word-most
+unfolding reserved-position
+reserved-short w l =
+    let found = first-found (length reserved-words) (λ i. same w (getD reserved-words i [])) in
+    let e : w ≡ getD reserved-words (reserved-position w) [] = same-true w _ (found .here l) in
+    rw e (leb-true _ _ (every-true (length reserved-words) _ reserved-lengths (reserved-position w) l))
