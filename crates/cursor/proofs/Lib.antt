@@ -1,0 +1,3 @@
+-- Laws about what the cursor takes.
+pub mod Taking
+pub mod Symbols

@@ -1,0 +1,2 @@
+-- What the cursor takes.
+pub mod Takes
