@@ -1,0 +1,2 @@
+-- Laws about rows.
+pub mod Rows

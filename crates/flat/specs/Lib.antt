@@ -1,0 +1,2 @@
+-- How a tree is kept as numbers.
+pub mod Flat
