@@ -1,0 +1,19 @@
+-- Laws of the readers.
+pub mod Labelling
+pub mod Sorts
+pub mod Ending
+pub mod Took
+pub mod Signs
+pub mod Frames
+pub mod Begins
+pub mod Standing
+pub mod Nodes
+pub mod Messages
+pub mod Choices
+pub mod ItemSteps
+pub mod Lists
+pub mod Items
+pub mod LabelSteps
+pub mod Labelled
+pub mod Safe
+pub mod Told

@@ -1,0 +1,546 @@
+// The reader of types: it calls itself for items, labels and continuations, and writes what it finds as plain numbers into lent areas, from
+// which the table is made at the end. No table goes through the calls.
+use cursor::Cursor;
+use cursor::NOTHING;
+use cursor::RESERVED;
+use cursor::Taken;
+use cursor::WORD;
+use flat::A_SESSION;
+use flat::A_USE;
+use flat::COUNT;
+use flat::GOES_ON;
+use flat::LIST;
+use flat::NODE_ROOM;
+use flat::ROW;
+use flat::TEXT_MOST;
+use flat::find_word;
+use flat::word_at;
+use table::ITEMS_MOST;
+use table::LABELS_MOST;
+use words::WORD_MOST;
+ghost use mathlib.Core.Path.{_≡_};
+ghost use Prim.Native.Nat.{_+_, _*_, _<_, _≤_};
+ghost use lib.ListN.{length};
+ghost use Rattle.rules.specs.Notation.{Way};
+ghost use Rattle.rules.specs.Numbers.{text-most, text-nodes-most, labels-most, items-most, brackets-most};
+ghost use Rattle.rules.proofs.Machine.{open-byte, close-byte};
+ghost use Rattle.cursor.specs.Takes.{reserved-kind};
+ghost use Rattle.flat.specs.Flat.{room, list-from, message-number, choice-number};
+ghost use Rattle.type_reader.specs.Leaves.{Signed, Opened, Begun, Used, Ended, begins-type, begins-item, is-sort, ItemBegun, Labelled, stored-head, stored-label};
+ghost use Rattle.type_reader.specs.Answers.{Ready, TokenReady, Sound, TypeRead, ItemsRead, ItemRead, RestRead, LabelRead, MoreRead, message-byte, choice-byte};
+
+// "64 nodes in a text", "16 brackets `(`, `[`, `{` open at once"
+pub const TEXT_NODES_MOST: usize = 64;
+
+pub const BRACKETS_MOST: usize = 16;
+
+// What was read, with the cursor behind it: of a type its link, of a list its count; or a refusal.
+pub enum Got {
+    Past { value: u16, next: Cursor },
+    Refused { number: usize, place: usize },
+}
+
+// The byte b, or refusal 2.
+pub fn sign(s: &[u8], c: Cursor, b: u16) -> Got
+    requires { ⌜ c .at ≤ length (now s) ⌝ }
+    ensures { λ r. ⌜ Signed (now (s .entry)) c b r ⌝ }
+{
+    let t = c.take(s);
+    if t.kind == b {
+        let next = t.next;
+        return Got::Past { value: 0, next };
+    }
+    Got::Refused {
+        number: 2,
+        place: t.at,
+    }
+}
+
+// The opening bracket b, where `deep` are open.
+fn bracket(s: &[u8], c: Cursor, b: u16, deep: usize) -> Got
+    requires { ⌜ c .at ≤ length (now s) ⌝ }
+    ensures { λ r. ⌜ Opened (now (s .entry)) c b deep r ⌝ }
+{
+    let t = c.take(s);
+    if t.kind != b {
+        return Got::Refused {
+            number: 2,
+            place: t.at,
+        };
+    }
+    if BRACKETS_MOST <= deep {
+        return Got::Refused {
+            number: 4,
+            place: t.at,
+        };
+    }
+    let next = t.next;
+    Got::Past { value: 0, next }
+}
+
+// The number of the node that begins at t.
+fn begin_node(t: Taken) -> Got
+    requires { ⌜ t .next .nodes ≤ text-nodes-most ⌝ }
+    ensures { λ r. ⌜ Begun t r ⌝ }
+{
+    let c = t.next;
+    let n = c.nodes;
+    if TEXT_NODES_MOST <= n {
+        return Got::Refused {
+            number: 5,
+            place: t.at,
+        };
+    }
+    Got::Past {
+        value: n as u16,
+        next: Cursor {
+            at: c.at,
+            nodes: n + 1,
+            uses: c.uses,
+        },
+    }
+}
+
+// A name where a type stands: a use, which is kept by its place.
+fn use_name(uses: &mut [u16; TEXT_MOST], t: Taken) -> Got
+    requires { ⌜ (t .next .uses < text-most) × (t .at < text-most) × (length (now uses) ≡ text-most) ⌝ }
+    ensures { λ r. ⌜ Used t (now (uses .entry)) (now (uses .exit)) r ⌝ }
+{
+    if WORD_MOST < t.len {
+        return Got::Refused {
+            number: 3,
+            place: t.at,
+        };
+    }
+    let c = t.next;
+    let n = c.uses;
+    uses[n] = t.at as u16;
+    Got::Past {
+        value: (A_USE + n) as u16,
+        next: Cursor {
+            at: c.at,
+            nodes: c.nodes,
+            uses: n + 1,
+        },
+    }
+}
+
+// A node's kind, its count and its continuation.
+fn store(nodes: &mut [u16; TEXT_MOST], node: usize, kind: u16, n: u16, link: u16)
+    requires { ⌜ node < text-nodes-most ⌝ }
+    ensures { λ _. ⌜ now (nodes .exit) ≡ stored-head (now (nodes .entry)) node kind n link ⌝ }
+{
+    nodes[node * NODE_ROOM] = kind;
+    nodes[node * NODE_ROOM + COUNT] = n;
+    nodes[node * NODE_ROOM + GOES_ON] = link;
+}
+
+fn read_end(nodes: &mut [u16; TEXT_MOST], t: Taken) -> Got
+    requires { ⌜ (t .next .nodes ≤ text-nodes-most) × (length (now nodes) ≡ text-most) ⌝ }
+    ensures { λ r. ⌜ Ended t (now (nodes .entry)) (now (nodes .exit)) r ⌝ }
+{
+    let r = begin_node(t);
+    let Got::Past { value, next: _ } = r else {
+        return r;
+    };
+    store(nodes, value as usize, 0, 0, 0);
+    r
+}
+
+// Whether a type begins with the byte.
+fn begins_type(k: u16) -> bool
+    ensures { λ r. ⌜ r ≡ begins-type k ⌝ }
+{
+    if k == 63 {
+        return true;
+    }
+    if k == 33 {
+        return true;
+    }
+    if k == 38 {
+        return true;
+    }
+    k == 43
+}
+
+// Whether an item begins with the token: a type's byte, a reserved word or a name.
+fn begins_item(k: u16) -> bool
+    ensures { λ r. ⌜ r ≡ begins-item k ⌝ }
+{
+    if k < RESERVED {
+        return begins_type(k);
+    }
+    k < NOTHING
+}
+
+// Whether the token is one of "the four reserved words other than `end`".
+fn is_sort(k: u16) -> bool
+    ensures { λ r. ⌜ r ≡ is-sort k ⌝ }
+{
+    if k <= RESERVED {
+        return false;
+    }
+    k < WORD
+}
+
+// What the item is that begins at t, behind n others: a sort's number, or `A_SESSION` where a type is to be read.
+fn item(t: Taken, n: usize) -> Got
+    ensures { λ r. ⌜ ItemBegun t n r ⌝ }
+{
+    let k = t.kind;
+    let next = t.next;
+    if !begins_item(k) {
+        return Got::Refused {
+            number: 2,
+            place: t.at,
+        };
+    }
+    if WORD_MOST < t.len {
+        return Got::Refused {
+            number: 3,
+            place: t.at,
+        };
+    }
+    if ITEMS_MOST <= n {
+        return Got::Refused {
+            number: 5,
+            place: t.at,
+        };
+    }
+    if is_sort(k) {
+        return Got::Past {
+            value: k - RESERVED - 1,
+            next,
+        };
+    }
+    Got::Past {
+        value: A_SESSION,
+        next,
+    }
+}
+
+// The label that is t, behind n others of its node.
+fn label(s: &[u8], nodes: &[u16; TEXT_MOST], t: Taken, node: usize, n: usize) -> Got
+    requires { ⌜ (node < text-nodes-most) × (length (now nodes) ≡ text-most) ⌝ }
+    ensures { λ r. ⌜ Labelled (now (s .entry)) (now (nodes .entry)) (node * room + list-from) t n r ⌝ }
+{
+    if t.kind != WORD {
+        return Got::Refused {
+            number: 2,
+            place: t.at,
+        };
+    }
+    if WORD_MOST < t.len {
+        return Got::Refused {
+            number: 3,
+            place: t.at,
+        };
+    }
+    if LABELS_MOST <= n {
+        return Got::Refused {
+            number: 5,
+            place: t.at,
+        };
+    }
+    let all = &nodes[..];
+    let rows = &all[node * NODE_ROOM + LIST..];
+    if find_word(s, rows, n, word_at(s, t.at, t.len)) < n {
+        return Got::Refused {
+            number: 6,
+            place: t.at,
+        };
+    }
+    let next = t.next;
+    Got::Past { value: 0, next }
+}
+
+fn store_label(nodes: &mut [u16; TEXT_MOST], node: usize, n: usize, t: Taken, link: u16)
+    requires { ⌜ (node < text-nodes-most) × (n < labels-most) × (t .at ≤ text-most) × (t .len ≤ text-most) ⌝ }
+    ensures { λ _. ⌜ now (nodes .exit) ≡ stored-label (now (nodes .entry)) node n t link ⌝ }
+{
+    let at = node * NODE_ROOM + LIST + n * ROW;
+    nodes[at] = t.at as u16;
+    nodes[at + 1] = t.len as u16;
+    nodes[at + 2] = link;
+}
+
+// The type whose first token is t, inside `deep` open brackets.
+pub fn read_type(
+    s: &[u8],
+    nodes: &mut [u16; TEXT_MOST],
+    uses: &mut [u16; TEXT_MOST],
+    t: Taken,
+    deep: usize,
+) -> Got
+    requires { ⌜ TokenReady (now s) (now nodes) (now uses) t × (deep ≤ brackets-most) ⌝ }
+    ensures { λ r. ⌜ Sound (now (s .entry)) (now (nodes .exit)) (now (uses .exit)) (t .at) (t .next .nodes) r ⌝ }
+    ensures { λ r. ⌜ TypeRead (now (s .entry)) (now (nodes .entry)) (now (uses .entry)) (now (nodes .exit)) (now (uses .exit)) t deep r ⌝ }
+{
+    let k = t.kind;
+    if k == WORD {
+        return use_name(uses, t);
+    }
+    if k == RESERVED {
+        return read_end(nodes, t);
+    }
+    if k == 63 {
+        return read_message(s, nodes, uses, t, deep, 40, 41, 1);
+    }
+    if k == 33 {
+        return read_message(s, nodes, uses, t, deep, 91, 93, 2);
+    }
+    if k == 38 {
+        return read_choice(s, nodes, uses, t, deep, 3);
+    }
+    if k == 43 {
+        return read_choice(s, nodes, uses, t, deep, 4);
+    }
+    Got::Refused {
+        number: 2,
+        place: t.at,
+    }
+}
+
+// The message whose sign is t.
+fn read_message(
+    s: &[u8],
+    nodes: &mut [u16; TEXT_MOST],
+    uses: &mut [u16; TEXT_MOST],
+    t: Taken,
+    deep: usize,
+    opening: u16,
+    closing: u16,
+    kind: u16,
+) -> Got
+    requires { ⌜ TokenReady (now s) (now nodes) (now uses) t × (deep ≤ brackets-most) × (0 < t .len) × (opening < reserved-kind) × (closing < reserved-kind) ⌝ }
+    ensures { λ r. ⌜ Sound (now (s .entry)) (now (nodes .exit)) (now (uses .exit)) (t .at) (t .next .nodes) r ⌝ }
+    ensures { λ r. ⌜ ((d : Way) → t .kind ≡ message-byte d → opening ≡ open-byte d → closing ≡ close-byte d → kind ≡ message-number d → TypeRead (now (s .entry)) (now (nodes .entry)) (now (uses .entry)) (now (nodes .exit)) (now (uses .exit)) t deep r) ⌝ }
+{
+    let r1 = begin_node(t);
+    let Got::Past {
+        value: node,
+        next: c1,
+    } = r1
+    else {
+        return r1;
+    };
+    let r2 = bracket(s, c1, opening, deep);
+    let Got::Past { value: _, next: c2 } = r2 else {
+        return r2;
+    };
+    let r3 = read_items(s, nodes, uses, c2, deep + 1, node as usize, closing);
+    let Got::Past { value: n, next: c3 } = r3 else {
+        return r3;
+    };
+    let r4 = sign(s, c3, 59);
+    let Got::Past { value: _, next: c4 } = r4 else {
+        return r4;
+    };
+    let r5 = read_type(s, nodes, uses, c4.take(s), deep);
+    let Got::Past {
+        value: link,
+        next: c5,
+    } = r5
+    else {
+        return r5;
+    };
+    store(nodes, node as usize, kind, n, link);
+    Got::Past {
+        value: node,
+        next: c5,
+    }
+}
+
+// The items of a node, behind its opening bracket.
+fn read_items(
+    s: &[u8],
+    nodes: &mut [u16; TEXT_MOST],
+    uses: &mut [u16; TEXT_MOST],
+    c: Cursor,
+    deep: usize,
+    node: usize,
+    closing: u16,
+) -> Got
+    requires { ⌜ Ready (now s) (now nodes) (now uses) c × (deep ≤ brackets-most) × (node < c .nodes) × (closing < reserved-kind) ⌝ }
+    ensures { λ r. ⌜ Sound (now (s .entry)) (now (nodes .exit)) (now (uses .exit)) (c .at) (c .nodes) r ⌝ }
+    ensures { λ r. ⌜ ((d : Way) → closing ≡ close-byte d → ItemsRead (now (s .entry)) (now (nodes .entry)) (now (uses .entry)) (now (nodes .exit)) (now (uses .exit)) d c deep node r) ⌝ }
+{
+    let t = c.take(s);
+    if t.kind == closing {
+        let next = t.next;
+        return Got::Past { value: 0, next };
+    }
+    read_item(s, nodes, uses, t, deep, node, closing, 0)
+}
+
+// The item whose first token is t, behind n others, and those behind it.
+fn read_item(
+    s: &[u8],
+    nodes: &mut [u16; TEXT_MOST],
+    uses: &mut [u16; TEXT_MOST],
+    t: Taken,
+    deep: usize,
+    node: usize,
+    closing: u16,
+    n: usize,
+) -> Got
+    requires { ⌜ TokenReady (now s) (now nodes) (now uses) t × (deep ≤ brackets-most) × (node < t .next .nodes) × (closing < reserved-kind) ⌝ }
+    ensures { λ r. ⌜ Sound (now (s .entry)) (now (nodes .exit)) (now (uses .exit)) (t .at) (t .next .nodes) r ⌝ }
+    ensures { λ r. ⌜ ((d : Way) → closing ≡ close-byte d → ItemRead (now (s .entry)) (now (nodes .entry)) (now (uses .entry)) (now (nodes .exit)) (now (uses .exit)) d t deep node n r) ⌝ }
+{
+    let r1 = item(t, n);
+    let Got::Past {
+        value: sort,
+        next: c1,
+    } = r1
+    else {
+        return r1;
+    };
+    if sort < A_SESSION {
+        nodes[node * NODE_ROOM + LIST + n] = sort;
+        return read_rest(s, nodes, uses, c1, deep, node, closing, n + 1);
+    }
+    let r2 = read_type(s, nodes, uses, t, deep);
+    let Got::Past {
+        value: link,
+        next: c2,
+    } = r2
+    else {
+        return r2;
+    };
+    nodes[node * NODE_ROOM + LIST + n] = A_SESSION + link;
+    read_rest(s, nodes, uses, c2, deep, node, closing, n + 1)
+}
+
+// Behind n items: a comma and a further one, or the closing bracket.
+fn read_rest(
+    s: &[u8],
+    nodes: &mut [u16; TEXT_MOST],
+    uses: &mut [u16; TEXT_MOST],
+    c: Cursor,
+    deep: usize,
+    node: usize,
+    closing: u16,
+    n: usize,
+) -> Got
+    requires { ⌜ Ready (now s) (now nodes) (now uses) c × (deep ≤ brackets-most) × (node < c .nodes) × (n ≤ items-most) × (closing < reserved-kind) ⌝ }
+    ensures { λ r. ⌜ Sound (now (s .entry)) (now (nodes .exit)) (now (uses .exit)) (c .at) (c .nodes) r ⌝ }
+    ensures { λ r. ⌜ ((d : Way) → closing ≡ close-byte d → RestRead (now (s .entry)) (now (nodes .entry)) (now (uses .entry)) (now (nodes .exit)) (now (uses .exit)) d c deep node n r) ⌝ }
+{
+    let t = c.take(s);
+    let next = t.next;
+    if t.kind == closing {
+        return Got::Past {
+            value: n as u16,
+            next,
+        };
+    }
+    if t.kind == 44 {
+        return read_item(s, nodes, uses, next.take(s), deep, node, closing, n);
+    }
+    Got::Refused {
+        number: 2,
+        place: t.at,
+    }
+}
+
+// The choice whose sign is t.
+fn read_choice(
+    s: &[u8],
+    nodes: &mut [u16; TEXT_MOST],
+    uses: &mut [u16; TEXT_MOST],
+    t: Taken,
+    deep: usize,
+    kind: u16,
+) -> Got
+    requires { ⌜ TokenReady (now s) (now nodes) (now uses) t × (deep ≤ brackets-most) × (0 < t .len) ⌝ }
+    ensures { λ r. ⌜ Sound (now (s .entry)) (now (nodes .exit)) (now (uses .exit)) (t .at) (t .next .nodes) r ⌝ }
+    ensures { λ r. ⌜ ((d : Way) → t .kind ≡ choice-byte d → kind ≡ choice-number d → TypeRead (now (s .entry)) (now (nodes .entry)) (now (uses .entry)) (now (nodes .exit)) (now (uses .exit)) t deep r) ⌝ }
+{
+    let r1 = begin_node(t);
+    let Got::Past {
+        value: node,
+        next: c1,
+    } = r1
+    else {
+        return r1;
+    };
+    let r2 = bracket(s, c1, 123, deep);
+    let Got::Past { value: _, next: c2 } = r2 else {
+        return r2;
+    };
+    let r3 = read_label(s, nodes, uses, c2.take(s), deep + 1, node as usize, 0);
+    let Got::Past { value: n, next: c3 } = r3 else {
+        return r3;
+    };
+    store(nodes, node as usize, kind, n, 0);
+    Got::Past {
+        value: node,
+        next: c3,
+    }
+}
+
+// The label t, behind n others, its type, and those behind it.
+fn read_label(
+    s: &[u8],
+    nodes: &mut [u16; TEXT_MOST],
+    uses: &mut [u16; TEXT_MOST],
+    t: Taken,
+    deep: usize,
+    node: usize,
+    n: usize,
+) -> Got
+    requires { ⌜ TokenReady (now s) (now nodes) (now uses) t × (deep ≤ brackets-most) × (node < t .next .nodes) ⌝ }
+    ensures { λ r. ⌜ Sound (now (s .entry)) (now (nodes .exit)) (now (uses .exit)) (t .at) (t .next .nodes) r ⌝ }
+    ensures { λ r. ⌜ LabelRead (now (s .entry)) (now (nodes .entry)) (now (uses .entry)) (now (nodes .exit)) (now (uses .exit)) t deep node n r ⌝ }
+{
+    let r1 = label(s, nodes, t, node, n);
+    let Got::Past { value: _, next: c1 } = r1 else {
+        return r1;
+    };
+    let r2 = sign(s, c1, 58);
+    let Got::Past { value: _, next: c2 } = r2 else {
+        return r2;
+    };
+    let r3 = read_type(s, nodes, uses, c2.take(s), deep);
+    let Got::Past {
+        value: link,
+        next: c3,
+    } = r3
+    else {
+        return r3;
+    };
+    store_label(nodes, node, n, t, link);
+    read_more(s, nodes, uses, c3, deep, node, n + 1)
+}
+
+// Behind n labels and the last one's type: `|` and a further label, or `}`.
+fn read_more(
+    s: &[u8],
+    nodes: &mut [u16; TEXT_MOST],
+    uses: &mut [u16; TEXT_MOST],
+    c: Cursor,
+    deep: usize,
+    node: usize,
+    n: usize,
+) -> Got
+    requires { ⌜ Ready (now s) (now nodes) (now uses) c × (deep ≤ brackets-most) × (node < c .nodes) × (n ≤ labels-most) ⌝ }
+    ensures { λ r. ⌜ Sound (now (s .entry)) (now (nodes .exit)) (now (uses .exit)) (c .at) (c .nodes) r ⌝ }
+    ensures { λ r. ⌜ MoreRead (now (s .entry)) (now (nodes .entry)) (now (uses .entry)) (now (nodes .exit)) (now (uses .exit)) c deep node n r ⌝ }
+{
+    let t = c.take(s);
+    let next = t.next;
+    if t.kind == 125 {
+        return Got::Past {
+            value: n as u16,
+            next,
+        };
+    }
+    if t.kind == 124 {
+        return read_label(s, nodes, uses, next.take(s), deep, node, n);
+    }
+    Got::Refused {
+        number: 2,
+        place: t.at,
+    }
+}
