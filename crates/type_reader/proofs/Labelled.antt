@@ -50,7 +50,7 @@ use Rattle.type_reader.proofs.Lists.{list-closes, mark-taken, list-ende
 use Rattle.type_reader.proofs.Frames.{Same, holds-more, stored-same, used-more}
 
 -- a token's spelling is the part of the text that it takes
-spelled-part :
+pub spelled-part :
     {s : List ℕ} {t : Taken} {ts : List Token} {K : Stack} {z : Seen} → Reached s ts K z → (k : Took s t ts word)
     → k .token .spelled ≡ part s (t .at) (t .len)
 spelled-part {s} {t} r k =

@@ -1,0 +1,2 @@
+-- What reading a definition, and all of them, answers.
+pub mod Defining
