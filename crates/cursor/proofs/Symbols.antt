@@ -10,7 +10,7 @@ use lib.Dec.{ltb}
 use lib.ListN.{length, getD}
 use Rattle.rules.specs.Words.{letter, reserved, reserved-words, reserved-position}
 use Rattle.rules.specs.Tokens.{Token, Symbol, word, reserved-word, one-byte, symbol}
-use Rattle.cursor.specs.Takes.{kind, first-kind, reserved-kind, word-kind, end-kind}
+use Rattle.cursor.specs.Takes.{kind, first-kind, reserved-kind, word-kind}
 
 -- the first token, by its symbol
 pub record First (ts : List Token) (f : Token → Symbol) : Type 0 where

@@ -4,20 +4,19 @@ use mathlib.Core.Bool.{Bool, true, false}
 use mathlib.Core.List.{List, [], _∷_}
 use mathlib.Core.Logic.{_⊎_, inl, inr}
 use mathlib.Core.Path.{_≡_, refl, sym, ap, _∙_}
-use Prim.Native.Nat.{ℕ, suc, _+_, _-_, _<_, _≤_}
+use Prim.Native.Nat.{ℕ, _+_, _-_, _<_, _≤_}
 use native.Mathlib.Omega.{arith}
 use borrow.Author.Tests.{lt-ltb, le-ltb, ltb-true}
 use lib.Dec.{ltb}
-use lib.ListN.{length, getD, take, drop, length-take, length-drop}
+use lib.ListN.{length, getD}
 use Rattle.rules.specs.Basics.{part}
 use Rattle.rules.specs.Words.{blank, letter, word-byte, word-most, reserved-words, reserved-position, reserved}
 use Rattle.rules.specs.Tokens.{Token, symbol}
 use Rattle.rules.proofs.Basics.{part-length, part-at}
 use Rattle.rules.proofs.Words.{reserved-short}
 use Rattle.rules.proofs.TokensBehind.{past, past-from, past-within, past-stops, tokens-behind, behind-past, behind-none, behind-byte, behind-word, word-further}
-use Rattle.cursor.specs.Takes.{kind, word-number, reserved-kind, word-kind, end-kind, Ahead, Takes}
+use Rattle.cursor.specs.Takes.{kind, word-number, reserved-kind, word-kind, end-kind, Takes}
 use Rattle.cursor.specs.declared.Cursor.{Cursor}
-use Rattle.cursor.specs.declared.Taken.{Taken}
 
 pub moved-to : (r : Cursor) {i j n u : ℕ} → r ≡ record { at = i; nodes = n; uses = u } → i ≡ j → r ≡ record { at = j; nodes = n; uses = u }
 moved-to r e d = rw (← d) e

@@ -10,7 +10,7 @@ use Rattle.rules.specs.Tokens.{Token, tokens}
 use Rattle.rules.specs.Notation.{Way, into, out, Ty, ended, name, message, choice, Items, no-items, sort, session, Labels, last-label, label, Text, last-definition, definition}
 use Rattle.rules.specs.Notation.{Writes}
 use Rattle.rules.specs.Numbers.{text-most, definitions-most, text-nodes-most, labels-most, items-most}
-use Rattle.rules.specs.Numbering.{behind, behind-items, behind-labels, behind-text, to-name, definition-count, follow, or-zero, link, start-type}
+use Rattle.rules.specs.Numbering.{behind, behind-items, behind-text, to-name, definition-count, follow, or-zero, link, start-type}
 use Rattle.rules.specs.Refusals.{unseen, used-names}
 use Rattle.rules.proofs.Reached.{Clear}
 use Rattle.table.specs.declared.Sort.{Sort}

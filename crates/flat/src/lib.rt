@@ -33,6 +33,17 @@ pub const A_USE: usize = 64;
 // An item is a sort's number, or this and a link.
 pub const A_SESSION: u16 = 4;
 
+// A node's kind, in the order of the crate `table`.
+pub const AN_END: u16 = 0;
+
+pub const A_RECEIVE: u16 = 1;
+
+pub const A_SEND: u16 = 2;
+
+pub const A_BRANCH: u16 = 3;
+
+pub const A_CHOOSE: u16 = 4;
+
 // The part of s from `at` on that is `len` bytes long, cut where s ends.
 pub fn word_at(s: &[u8], at: usize, len: usize) -> &[u8]
     ensures { λ r. ⌜ now r ≡ part (now (s .entry)) at len ⌝ }

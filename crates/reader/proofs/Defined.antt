@@ -1,27 +1,27 @@
 -- A definition: its name, `=`, its type, `.`. One law for each answer.
 -- Assumes nothing.
 use mathlib.Core.List.{List, [], _∷_}
-use mathlib.Core.Path.{_≡_, refl, sym, ap, ap₂, _∙_}
+use mathlib.Core.Path.{_≡_, refl, ap, ap₂, _∙_}
 use Prim.Native.Char.{code}
-use Prim.Native.Nat.{ℕ, zero, suc, _+_, _*_, _<_, _≤_}
+use Prim.Native.Nat.{ℕ, _+_, _*_, _≤_}
 use native.Mathlib.Nat.{zero-add}
 use native.Mathlib.Numerals.{add-one}
 use native.Mathlib.Omega.{arith}
 use lib.ListN.{length, getD}
 use Rattle.rules.specs.Basics.{part, first}
-use Rattle.rules.specs.Tokens.{Token, word, one-byte, symbols}
-use Rattle.rules.specs.Notation.{Ty, write-type}
-use Rattle.rules.specs.Numbers.{text-most, definitions-most}
+use Rattle.rules.specs.Tokens.{Token, one-byte, symbols}
+use Rattle.rules.specs.Notation.{Ty}
+use Rattle.rules.specs.Numbers.{text-most}
 use Rattle.rules.specs.Numbering.{behind}
 use Rattle.rules.specs.Refusals.{a-definition, nothing-new, one-of}
 use Rattle.rules.proofs.Machine.{this, a-type, Stack}
-use Rattle.rules.proofs.Reached.{Reached, Refuses}
+use Rattle.rules.proofs.Reached.{Reached}
 use Rattle.rules.proofs.OneToken.{counted, next-symbol}
 use Rattle.rules.proofs.TokensBehind.{tokens-behind}
 use Rattle.cursor.specs.Takes.{Ahead, Takes}
 use Rattle.cursor.specs.declared.Cursor.{Cursor}
 use Rattle.cursor.specs.declared.Taken.{Taken}
-use Rattle.flat.specs.Flat.{room, row, raw, used, words-of, Holds, Kept, stored-row}
+use Rattle.flat.specs.Flat.{row, raw, used, words-of}
 use Rattle.flat.proofs.Rows.{row-apart, row-at}
 use Rattle.type_reader.specs.Leaves.{Signed, signed, not-signed}
 use Rattle.type_reader.specs.Answers.{alone, TypeGot, TypeRead, PastType}

@@ -2,7 +2,6 @@
 -- Assumes nothing.
 use mathlib.Core.Bool.{Bool, true, false}
 use mathlib.Core.List.{List, [], _∷_}
-use mathlib.Core.Logic.{inl, inr}
 use mathlib.Core.Path.{_≡_, refl, sym, ap, _∙_}
 use Prim.Native.Nat.{ℕ, _+_, _*_, _<_, _≤_}
 use native.Mathlib.Omega.{arith}
@@ -11,9 +10,9 @@ use lib.Dec.{ltb}
 use lib.ListN.{length}
 use Rattle.rules.specs.Words.{reserved-words}
 use Rattle.rules.specs.Tokens.{Token, Symbol, word, reserved-word, one-byte, symbol, symbols, tokens}
-use Rattle.rules.specs.Notation.{Ty, Text}
+use Rattle.rules.specs.Notation.{Text}
 use Rattle.rules.specs.Numbers.{text-most, definitions-most}
-use Rattle.rules.specs.Refusals.{a-definition, unseen, text-too-long}
+use Rattle.rules.specs.Refusals.{a-definition, text-too-long}
 use Rattle.rules.specs.Replies.{Reads, refused}
 use Rattle.rules.specs.computed.Reading.{reading}
 use Rattle.rules.proofs.Agreement.{reads-reading}
@@ -21,17 +20,17 @@ use Rattle.rules.proofs.Machine.{start}
 use Rattle.rules.proofs.Reached.{Reached, Refuses, reached-start, reached-text}
 use Rattle.rules.proofs.OneToken.{counted}
 use Rattle.rules.proofs.TokensBehind.{tokens-behind}
-use Rattle.cursor.specs.Takes.{Ahead, Takes, kind, first-kind, reserved-kind, end-kind}
+use Rattle.cursor.specs.Takes.{Ahead, Takes, kind, reserved-kind, end-kind}
 use Rattle.cursor.specs.declared.Cursor.{Cursor}
 use Rattle.cursor.specs.declared.Taken.{Taken}
 use Rattle.flat.specs.Flat.{row, words-of, Parsed}
 use Rattle.flat.proofs.Rows.{row-length}
 use Rattle.type_reader.specs.Leaves.{Signed, signed, not-signed}
-use Rattle.type_reader.specs.Answers.{Ready, TokenReady}
+use Rattle.type_reader.specs.Answers.{Ready}
 use Rattle.type_reader.proofs.Safe.{onward-taken}
 use Rattle.type_reader.specs.declared.Got.{Got}
 use Rattle.type_reader.specs.declared.Got.the-variants.{Past, Refused}
-use Rattle.reader.specs.Defining.{rows-room, stored-definition, Starts, at-first, further, PastDefinition, DefinitionGot, DefinitionRead, TextGot, Sound}
+use Rattle.reader.specs.Defining.{rows-room, stored-definition, Starts, at-first, further, DefinitionGot, DefinitionRead, TextGot, Sound}
 use Rattle.reader.specs.Defining as defining
 use Rattle.reader.proofs.Texts.{Whole, Open, open-first, open-next, closed-next}
 

@@ -1,26 +1,24 @@
 -- A definition's name: where it may stand, and what it is refused for.
 -- Assumes nothing.
-use mathlib.Core.Bool.{Bool, true, false}
-use mathlib.Core.List.{List, [], _∷_, _++_}
-use mathlib.Core.Option.{none, some}
+use mathlib.Core.Bool.{true, false}
+use mathlib.Core.List.{List, [], _∷_}
+use mathlib.Core.Option.{none}
 use mathlib.Core.Path.{_≡_, refl, sym, ap, ap₂, _∙_}
-use Prim.Native.Char.{code}
 use Prim.Native.Nat.{ℕ, _+_, _*_, _<_, _≤_}
 use native.Mathlib.Nat.{zero-add}
 use native.Mathlib.Omega.{arith}
 use borrow.Author.Tests.{lt-leb, le-leb}
 use lib.Dec.{leb}
-use lib.ListN.{length, getD, take, drop}
-use lib.Seq.{take-all}
-use Rattle.rules.specs.Basics.{part, same, first}
+use lib.ListN.{length, getD}
+use Rattle.rules.specs.Basics.{part, same}
 use Rattle.rules.specs.Words.{word-most}
-use Rattle.rules.specs.Tokens.{Token, Symbol, word, reserved-word, one-byte, symbol, symbols}
+use Rattle.rules.specs.Tokens.{Token, Symbol, word, reserved-word, one-byte, symbol}
 use Rattle.rules.specs.Numbers.{text-most, definitions-most}
 use Rattle.rules.specs.Refusals.{a-definition, nothing-new, one-of, among, Seen, unexpected, one-too-many}
 use Rattle.rules.specs.Refusals as refusal
 use Rattle.rules.specs.computed.Reading.{token-fault, lowest, if-so}
 use Rattle.rules.proofs.Basics.{first-found}
-use Rattle.rules.proofs.Machine.{this, a-type, Stack, on, stuck, look, step, in-definition, start}
+use Rattle.rules.proofs.Machine.{Stack, on, stuck, step, in-definition, start}
 use Rattle.rules.proofs.Reached.{Reached, Refuses, reached-stuck}
 use Rattle.rules.proofs.OneToken.{counted, fault-symbol, fault-long}
 use Rattle.rules.proofs.TokensBehind.{tokens-behind}
@@ -31,7 +29,7 @@ use Rattle.cursor.proofs.Symbols.{kind-of-word}
 use Rattle.flat.specs.Flat.{row, word-of, words-of, word-found}
 use Rattle.type_reader.specs.declared.Got.{Got}
 use Rattle.type_reader.specs.declared.Got.the-variants.{Past, Refused}
-use Rattle.type_reader.proofs.Took.{Took, took-word, not-here, took-counted, took-fault}
+use Rattle.type_reader.proofs.Took.{took-word, not-here, took-counted, took-fault}
 use Rattle.type_reader.proofs.Begins.{no-row}
 use Rattle.type_reader.proofs.LabelSteps.{among-words, among-no-words, words-long}
 use Rattle.type_reader.proofs.Labelled.{spelled-part}

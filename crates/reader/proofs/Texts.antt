@@ -1,37 +1,24 @@
 -- The definitions read so far are the beginning of a text: whatever text stands behind them, all together is one, and stands in the areas.
 -- Assumes nothing.
-use mathlib.Core.Bool.{Bool, true, false}
 use mathlib.Core.List.{List, [], _∷_}
 use mathlib.Core.Path.{_≡_, refl, sym, ap, _∙_}
-use Prim.Native.Char.{code}
-use Prim.Native.Nat.{ℕ, zero, suc, _+_, _*_, _<_, _≤_}
+use Prim.Native.Nat.{ℕ, _+_, _*_, _≤_}
 use native.Mathlib.Nat.{zero-add}
 use native.Mathlib.Omega.{arith}
-use borrow.Author.Tests.{ltb-true}
-use lib.Dec.{ltb}
 use lib.ListN.{length, getD}
-use Rattle.rules.specs.Words.{reserved-words}
-use Rattle.rules.specs.Tokens.{Token, Symbol, word, reserved-word, one-byte, symbol, symbols, tokens}
+use Rattle.rules.specs.Tokens.{Token, symbols, tokens}
 use Rattle.rules.specs.Notation.{Ty, Text, last-definition, definition, write-text, Writes}
-use Rattle.rules.specs.Numbers.{text-most, definitions-most, text-nodes-most}
 use Rattle.rules.specs.Numbering.{behind, behind-text, definition-count}
-use Rattle.rules.specs.Refusals.{a-definition, unseen}
-use Rattle.rules.proofs.Machine.{start}
-use Rattle.rules.proofs.Reached.{Reached, Refuses, reached-start, reached-text}
-use Rattle.rules.proofs.OneToken.{counted}
 use Rattle.rules.proofs.TokensBehind.{tokens-behind}
-use Rattle.cursor.specs.Takes.{Ahead, Takes, kind, first-kind, reserved-kind, end-kind}
+use Rattle.cursor.specs.Takes.{Takes}
 use Rattle.cursor.specs.declared.Cursor.{Cursor}
 use Rattle.cursor.specs.declared.Taken.{Taken}
-use Rattle.flat.specs.Flat.{room, row, used, used-text, raw, raw-row, raw-text, words-of, Holds, Stored, StoredText, Kept, Parsed}
-use Rattle.type_reader.specs.Answers.{Ready}
-use Rattle.type_reader.specs.declared.Got.{Got}
-use Rattle.type_reader.specs.declared.Got.the-variants.{Past, Refused}
+use Rattle.flat.specs.Flat.{room, row, used, used-text, raw, raw-row, raw-text, Holds, Stored, StoredText, Kept}
 use Rattle.type_reader.proofs.Standing.{kept-then, kept-same}
 use Rattle.type_reader.proofs.Frames.{stored-same, used-more, holds-more}
 use Rattle.type_reader.proofs.Messages.{holds-from}
 use Rattle.rules.proofs.Links.{behind-more}
-use Rattle.reader.specs.Defining.{rows-room, Starts, at-first, further, PastDefinition, DefinitionGot, DefinitionRead, TextGot, Sound}
+use Rattle.reader.specs.Defining.{PastDefinition}
 use Rattle.reader.specs.Defining as defining
 
 -- the text x of the bytes s stands in the areas, with m definitions, k nodes and u uses

@@ -3,13 +3,13 @@
 use mathlib.Core.Bool.{Bool, true, false}
 use mathlib.Core.List.{List, [], _∷_}
 use mathlib.Core.Path.{_≡_}
-use Prim.Native.Nat.{ℕ, suc, _+_, _*_, _<_, _≤_}
+use Prim.Native.Nat.{ℕ, _+_, _*_, _<_, _≤_}
 use lib.ListN.{length}
 use Rattle.rules.specs.Basics.{part, same}
 use Rattle.rules.specs.Words.{word-most}
 use Rattle.rules.specs.Tokens.{Token, word, symbols}
 use Rattle.rules.specs.Notation.{Ty, Text, sign, write-type}
-use Rattle.rules.specs.Numbers.{text-most, definitions-most}
+use Rattle.rules.specs.Numbers.{definitions-most}
 use Rattle.rules.specs.Numbering.{behind}
 use Rattle.rules.specs.Refusals.{a-definition}
 use Rattle.rules.specs.Refusals as refusal

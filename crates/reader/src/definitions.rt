@@ -10,15 +10,26 @@ use flat::TEXT_MOST;
 use flat::find_word;
 use flat::word_at;
 use type_reader::Got;
+use type_reader::ONE_TOO_MANY;
+use type_reader::UNEXPECTED;
+use type_reader::WORD_TOO_LONG;
 use type_reader::read_type;
 use type_reader::sign;
-use words::WORD_MOST;
+use type_reader::too_long;
 ghost use mathlib.Core.Path.{_≡_};
 ghost use Prim.Native.Nat.{_<_, _≤_};
 ghost use lib.ListN.{length};
 ghost use Rattle.rules.specs.Numbers.{text-most, definitions-most};
 ghost use Rattle.type_reader.specs.Answers.{TokenReady};
 ghost use Rattle.reader.specs.Defining.{rows-room, Named, stored-definition, Sound, DefinitionRead, TextGot};
+
+// The column "No." of document 01's refusal list.
+const NAME_TWICE: usize = 7;
+
+// The tokens of one byte.
+const EQUALS: u16 = b'=' as u16;
+
+const STOP: u16 = b'.' as u16;
 
 // The name t of a definition, behind n others.
 fn name(s: &[u8], definitions: &[u16; DEFINITIONS_ROOM], t: Taken, n: usize) -> Got
@@ -27,25 +38,25 @@ fn name(s: &[u8], definitions: &[u16; DEFINITIONS_ROOM], t: Taken, n: usize) -> 
 {
     if t.kind != WORD {
         return Got::Refused {
-            number: 2,
+            number: UNEXPECTED,
             place: t.at,
         };
     }
-    if WORD_MOST < t.len {
+    if too_long(t.len) {
         return Got::Refused {
-            number: 3,
+            number: WORD_TOO_LONG,
             place: t.at,
         };
     }
     if DEFINITIONS_MOST <= n {
         return Got::Refused {
-            number: 5,
+            number: ONE_TOO_MANY,
             place: t.at,
         };
     }
     if find_word(s, definitions, n, word_at(s, t.at, t.len)) < n {
         return Got::Refused {
-            number: 7,
+            number: NAME_TWICE,
             place: t.at,
         };
     }
@@ -79,7 +90,7 @@ fn read_definition(
     let Got::Past { value: _, next: c1 } = r1 else {
         return r1;
     };
-    let r2 = sign(s, c1, 61);
+    let r2 = sign(s, c1, EQUALS);
     let Got::Past { value: _, next: c2 } = r2 else {
         return r2;
     };
@@ -92,7 +103,7 @@ fn read_definition(
         return r3;
     };
     store_definition(definitions, n, t, link);
-    sign(s, c3, 46)
+    sign(s, c3, STOP)
 }
 
 // All definitions of a text; the value is their count.

@@ -17,6 +17,13 @@ ghost use Rattle.rules.specs.Notation.{Text};
 ghost use Rattle.rules.specs.Replies.{Reads};
 ghost use Rattle.flat.specs.Flat.{Parsed};
 
+// The column "No." of document 01's refusal list.
+const TEXT_TOO_LONG: usize = 1;
+
+const NEVER_DEFINED: usize = 8;
+
+const LEADS_ROUND: usize = 9;
+
 // 8, then 9, then the table.
 fn resolve(
     text: &[u8],
@@ -33,12 +40,12 @@ fn resolve(
     let mut owners = [0u8; TEXT_MOST];
     let u = find_owners(text, uses, use_count, definitions, n, &mut owners);
     if u < use_count {
-        return refused(8, uses[u] as usize);
+        return refused(NEVER_DEFINED, uses[u] as usize);
     }
     let mut ends = [0u8; DEFINITIONS_MOST];
     let d = find_ends(definitions, &owners, n, &mut ends);
     if d < n {
-        return refused(9, definitions[d * ROW] as usize);
+        return refused(LEADS_ROUND, definitions[d * ROW] as usize);
     }
     Made {
         table: table_from(nodes, node_count, &owners, &ends),
@@ -51,7 +58,7 @@ pub fn read(text: &[u8]) -> Made
     ensures { λ r. ⌜ Reads (now (text .entry)) r ⌝ }
 {
     if TEXT_MOST < text.len() {
-        return refused(1, 0);
+        return refused(TEXT_TOO_LONG, 0);
     }
     let mut nodes = [0u16; TEXT_MOST];
     let mut uses = [0u16; TEXT_MOST];

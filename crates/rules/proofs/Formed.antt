@@ -14,7 +14,7 @@ use borrow.Author.Tests.{leb-true, ltb-true, lt-ltb, not-true}
 use Rattle.rules.specs.Basics.{same, every}
 use Rattle.rules.specs.Words.{may-name}
 use Rattle.rules.specs.Numbers.{items-most, labels-most, table-nodes-most}
-use Rattle.rules.specs.Tables.{node-at, item-at, item-count, label-at, label-count, continuation, spelling, spelling-at, is-message, is-choice, SameNode, SameTable}
+use Rattle.rules.specs.Tables.{node-at, item-at, item-count, label-at, label-count, continuation, spelling-at, is-message, is-choice, SameNode, SameTable}
 use Rattle.rules.specs.Formed.{item-formed, label-formed, label-new, message-formed, choice-formed, formed-by, node-formed, well-formed}
 use Rattle.rules.proofs.Basics.{tests-same, every-true, every-all, same-refl, same-false}
 use Rattle.rules.proofs.FormedTests.{message-formed-items, label-formed-name, choice-formed-labels, well-formed-nodes}

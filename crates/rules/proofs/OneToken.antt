@@ -2,18 +2,17 @@
 -- Assumes nothing.
 use mathlib.Core.Bool.{Bool, true, false, _&&_, _||_}
 use mathlib.Core.List.{List, [], _∷_}
-use mathlib.Core.Option.{Option, none, some}
+use mathlib.Core.Option.{some}
 use mathlib.Core.Path.{_≡_, refl}
 use Prim.Native.Nat.{ℕ, suc, _<_, _≤_}
-use native.Mathlib.Omega.{arith}
-use borrow.Author.Tests.{lt-ltb, le-ltb, le-leb, lt-leb}
-use lib.Dec.{ltb, leb}
+use borrow.Author.Tests.{lt-ltb, le-ltb}
+use lib.Dec.{leb}
 use lib.ListN.{length}
-use Rattle.rules.specs.Basics.{bytes, first}
+use Rattle.rules.specs.Basics.{bytes}
 use Rattle.rules.specs.Words.{word-most}
-use Rattle.rules.specs.Tokens.{Token, Symbol, word, reserved-word, one-byte, symbol}
-use Rattle.rules.specs.Numbers.{text-most, text-nodes-most, items-most, brackets-most}
-use Rattle.rules.specs.Refusals.{Begins, a-definition, a-label, an-item, nothing-new, one-of, is-end, opens, closes, begins-node, begins-behind, Seen, innermost, entries-after, names-after, bracket-closed, brackets-after, nodes-after, seen-after, unexpected}
+use Rattle.rules.specs.Tokens.{Token, Symbol, symbol}
+use Rattle.rules.specs.Numbers.{text-most, text-nodes-most, brackets-most}
+use Rattle.rules.specs.Refusals.{Begins, a-definition, a-label, an-item, nothing-new, one-of, is-end, begins-behind, Seen, entries-after, names-after, bracket-closed, brackets-after, nodes-after, seen-after, unexpected}
 use Rattle.rules.specs.computed.Reading.{token-fault, lowest, one-more, again, place}
 use Rattle.rules.proofs.Machine.{Expect, Stack, step, stuck}
 use Rattle.rules.proofs.Reached.{Reached, Refuses, reached-stuck, reached-end}

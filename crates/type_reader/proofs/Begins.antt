@@ -2,37 +2,35 @@
 -- Assumes nothing.
 use mathlib.Core.Bool.{Bool, true, false}
 use mathlib.Core.List.{List, [], _∷_}
-use mathlib.Core.Option.{none, some}
-use mathlib.Core.Path.{_≡_, refl, sym, ap, _∙_}
+use mathlib.Core.Option.{none}
+use mathlib.Core.Path.{_≡_, refl, _∙_}
 use Prim.Native.Char.{code}
-use Prim.Native.Nat.{ℕ, zero, suc, _+_, _*_, _<_, _≤_}
+use Prim.Native.Nat.{ℕ, _+_, _<_, _≤_}
 use native.Mathlib.Numerals.{add-one}
 use native.Mathlib.Omega.{arith}
 use borrow.Author.Tests.{le-leb, lt-leb, ne-eqb}
-use lib.Dec.{eqb, leb}
-use lib.ListN.{length, getD, set, length-set}
+use lib.Dec.{leb}
+use lib.ListN.{length, set}
 use lib.Seq.{getD-set-same, getD-set-other}
-use Rattle.rules.specs.Basics.{first}
-use Rattle.rules.specs.Words.{word-most, reserved-words}
-use Rattle.rules.specs.Tokens.{Token, Symbol, word, reserved-word, one-byte, symbol, symbols}
-use Rattle.rules.specs.Notation.{Ty, ended, name, end-position}
+use Rattle.rules.specs.Words.{word-most}
+use Rattle.rules.specs.Tokens.{Token, Symbol, word, reserved-word, one-byte, symbol}
+use Rattle.rules.specs.Notation.{ended, name, end-position}
 use Rattle.rules.specs.Numbers.{text-most, text-nodes-most}
-use Rattle.rules.specs.Refusals.{Begins, an-item, nothing-new, Seen, one-of, innermost, entries-after, names-after, unexpected, one-too-many}
+use Rattle.rules.specs.Refusals.{Begins, nothing-new, one-of, entries-after, names-after, unexpected, one-too-many}
 use Rattle.rules.specs.computed.Reading.{token-fault, lowest}
-use Rattle.rules.proofs.Machine.{Expect, a-type, Stack, on, stuck, Row, _⇒_, look, type-rows, step}
+use Rattle.rules.proofs.Machine.{a-type, Stack, on, stuck, Row, _⇒_, look, type-rows, step}
 use Rattle.rules.proofs.Reached.{Reached, Refuses}
 use Rattle.rules.proofs.OneToken.{counted, opens-symbol, closes-symbol, begins-symbol, next-symbol, nodes-one-more, brackets-plain, fault-long}
 use Rattle.rules.proofs.TokensBehind.{tokens-behind}
 use Rattle.cursor.specs.Takes.{Ahead, reserved-kind, word-kind, kind}
-use Rattle.cursor.specs.declared.Cursor.{Cursor}
 use Rattle.cursor.specs.declared.Taken.{Taken}
 use Rattle.cursor.proofs.Symbols.{kind-of-word, kind-of-byte, kind-of-reserved}
-use Rattle.flat.specs.Flat.{room, a-use, end-number, Holds, Kept}
-use Rattle.type_reader.specs.Leaves.{Begun, begun, not-begun, Used, used-name, long-name, Ended, not-ended, stored-head}
+use Rattle.flat.specs.Flat.{a-use, end-number, Kept}
+use Rattle.type_reader.specs.Leaves.{Used, used-name, long-name, Ended, not-ended, stored-head}
 use Rattle.type_reader.specs.Leaves as leaves
-use Rattle.type_reader.specs.Answers.{Acts, first-spelled, TypeRoom, alone, as-item, PastType, TypeGot, refused, past, TypeRead}
+use Rattle.type_reader.specs.Answers.{Acts, first-spelled, TypeRoom, alone, as-item, PastType, refused, past, TypeRead}
 use Rattle.type_reader.specs.declared.Got.{Got}
-use Rattle.type_reader.specs.declared.Got.the-variants.{Past, Refused}
+use Rattle.type_reader.specs.declared.Got.the-variants.{Refused}
 use Rattle.type_reader.proofs.Frames.{holds-one, holds-front, head-holds, head-kept}
 use Rattle.type_reader.proofs.Took.{Took, took-word, took-reserved, not-here, took-symbols, took-spelled, took-counted, took-fault, fault-here}
 use Rattle.type_reader.proofs.Signs.{short-token}

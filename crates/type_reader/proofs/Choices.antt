@@ -2,15 +2,15 @@
 -- Assumes nothing.
 use mathlib.Core.List.{List, [], _∷_}
 use mathlib.Core.Logic.{inl, inr}
-use mathlib.Core.Path.{_≡_, refl, sym, ap, subst, _∙_}
+use mathlib.Core.Path.{_≡_, refl, sym, subst, _∙_}
 use Prim.Native.Char.{code}
-use Prim.Native.Nat.{ℕ, zero, suc, _+_, _*_, _<_, _≤_}
+use Prim.Native.Nat.{ℕ, suc, _+_, _*_, _<_, _≤_}
 use native.Mathlib.Nat.{zero-add}
 use native.Mathlib.Numerals.{add-one}
 use native.Mathlib.Omega.{arith}
-use lib.ListN.{length, getD}
-use Rattle.rules.specs.Tokens.{Token, Symbol, one-byte, symbols}
-use Rattle.rules.specs.Notation.{Way, Ty, choice, Labels, write-labels}
+use lib.ListN.{length}
+use Rattle.rules.specs.Tokens.{Token, one-byte, symbols}
+use Rattle.rules.specs.Notation.{Way, choice, Labels, write-labels}
 use Rattle.rules.specs.Numbers.{text-most, text-nodes-most, labels-most}
 use Rattle.rules.specs.Numbering.{behind-labels}
 use Rattle.rules.specs.Refusals.{a-label}
@@ -23,7 +23,7 @@ use Rattle.rules.proofs.TokensBehind.{tokens-behind}
 use Rattle.cursor.specs.Takes.{Takes}
 use Rattle.cursor.specs.declared.Cursor.{Cursor}
 use Rattle.cursor.specs.declared.Taken.{Taken}
-use Rattle.flat.specs.Flat.{room, list-from, row, choice-number, raw-labels, labels-long, used-labels, Holds, Stored, StoredLabels, Kept}
+use Rattle.flat.specs.Flat.{room, list-from, choice-number, raw-labels, labels-long, Holds, Stored, StoredLabels}
 use Rattle.type_reader.specs.Leaves.{Begun, behind-node, Opened, stored-head}
 use Rattle.type_reader.specs.Answers.{PastType, TypeRead, PastLabels, LabelsGot, LabelRead, choice-byte}
 use Rattle.type_reader.specs.Answers as answers

@@ -2,16 +2,15 @@
 -- Assumes nothing.
 use mathlib.Core.List.{List, [], _∷_}
 use mathlib.Core.Logic.{_⊎_, inl, inr}
-use mathlib.Core.Path.{_≡_, refl, sym, ap, _∙_}
+use mathlib.Core.Path.{_≡_, refl, ap, _∙_}
 use Prim.Native.Nat.{ℕ, zero, suc, _+_, _*_, _<_, _≤_}
 use native.Mathlib.Omega.{arith}
 use lib.ListN.{length, getD, set, length-set}
 use lib.Seq.{getD-set-same, getD-set-other}
-use Rattle.rules.specs.Notation.{Way, Ty, ended, name, message, choice, Items, no-items, sort, session, Labels, last-label, label}
-use Rattle.rules.specs.Numbers.{labels-most, items-most}
+use Rattle.rules.specs.Notation.{Ty, ended, name, message, choice, Items, no-items, sort, session, Labels, last-label, label}
 use Rattle.rules.specs.Numbering.{behind, behind-items, behind-labels}
 use Rattle.rules.proofs.Links.{behind-more, behind-items-more, behind-labels-more}
-use Rattle.flat.specs.Flat.{room, list-from, row, used, used-items, used-labels, raw-items, raw-labels, items-long, labels-long, Holds, Stored, StoredItems, StoredLabels, Kept, KeptBut}
+use Rattle.flat.specs.Flat.{room, list-from, row, used, used-items, used-labels, raw-items, raw-labels, items-long, labels-long, Holds, Stored, StoredItems, StoredLabels, Kept}
 use Rattle.type_reader.specs.Leaves.{stored-head}
 
 -- two areas have the same from `from` to `to`

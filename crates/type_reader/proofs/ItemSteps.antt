@@ -7,15 +7,15 @@ use mathlib.Core.Path.{_≡_, refl, sym, ap, _∙_}
 use Prim.Native.Char.{code}
 use Prim.Native.Nat.{ℕ, zero, suc, _+_, _-_, _<_, _≤_}
 use native.Mathlib.Omega.{arith}
-use borrow.Author.Tests.{eqb-true, eqb-false, ltb-true, ltb-false, lt-ltb, le-ltb, ne-eqb, lt-leb}
-use lib.Dec.{eqb, ltb, leb}
+use borrow.Author.Tests.{eqb-true, ltb-true, lt-ltb, le-ltb, lt-leb}
+use lib.Dec.{eqb, ltb}
 use lib.ListN.{length}
 use Rattle.rules.specs.Basics.{first}
 use Rattle.rules.specs.Words.{reserved-words}
-use Rattle.rules.specs.Tokens.{Token, Symbol, word, reserved-word, one-byte, symbol}
+use Rattle.rules.specs.Tokens.{Symbol, word, reserved-word, one-byte}
 use Rattle.rules.specs.Notation.{Way, into, out, closing, end-position, sort-position}
 use Rattle.rules.specs.Refusals.{nothing-new, an-item, one-of}
-use Rattle.rules.proofs.Machine.{Expect, a-type, some-items, more-items, Stack, Next, on, stuck, Row, _⇒_, look, type-rows, item-rows, in-message, in-choice, step, close-byte}
+use Rattle.rules.proofs.Machine.{a-type, some-items, more-items, Stack, on, stuck, Row, _⇒_, look, type-rows, in-message, in-choice, step, close-byte}
 use Rattle.rules.proofs.Machine as expect
 use Rattle.rules.proofs.OneToken.{opens-symbol, closes-symbol, begins-symbol, next-symbol}
 use Rattle.cursor.specs.Takes.{kind, reserved-kind, word-kind, end-kind}
@@ -24,7 +24,7 @@ use Rattle.flat.specs.Flat.{sort-number}
 use Rattle.table.specs.declared.Sort.{Sort}
 use Rattle.table.specs.declared.Sort.the-variants.{String, Float, Boolean, Void}
 use Rattle.type_reader.specs.Leaves.{begins-type, begins-item, is-sort}
-use Rattle.type_reader.proofs.Begins.{look-past, no-row, NoType, type-rows-past}
+use Rattle.type_reader.proofs.Begins.{look-past, no-row}
 use Rattle.type_reader.proofs.Sorts.{sort-between}
 
 -- a further row does not matter where the rows behind lead alike

@@ -2,48 +2,48 @@
 -- Assumes nothing.
 use mathlib.Core.Bool.{Bool, true, false, false≢true, _&&_, _||_}
 use mathlib.Core.List.{List, [], _∷_}
-use mathlib.Core.Logic.{_⊎_, inl, inr}
+use mathlib.Core.Logic.{inl, inr}
 use mathlib.Core.Option.{none, some}
 use mathlib.Core.Path.{_≡_, refl, sym, ap, _∙_}
 use Prim.Native.Char.{code}
-use Prim.Native.Nat.{ℕ, zero, suc, _+_, _-_, _*_, _<_, _≤_}
+use Prim.Native.Nat.{ℕ, suc, _+_, _-_, _*_, _<_, _≤_}
 use native.Mathlib.Omega.{arith}
 use borrow.Author.Tests.{le-leb}
 use lib.Dec.{leb}
-use lib.ListN.{length, getD, set, length-set}
-use lib.Seq.{getD-set-same, getD-set-other}
+use lib.ListN.{length, set}
+use lib.Seq.{getD-set-same}
 use Rattle.rules.specs.Basics.{first}
 use Rattle.rules.specs.Words.{word-most}
 use Rattle.rules.specs.Tokens.{Token, Symbol, word, reserved-word, one-byte, symbol, symbols}
 use Rattle.rules.specs.Notation.{Way, Ty, Items, no-items, sort, session, sign, closing, sort-position, parted, write-type, write-items}
-use Rattle.rules.specs.Numbers.{text-most, text-nodes-most, items-most, brackets-most}
-use Rattle.rules.specs.Numbering.{behind, behind-items}
-use Rattle.rules.specs.Refusals.{Begins, an-item, nothing-new, one-of, innermost, entries-after, unexpected, one-too-many, word-too-long}
-use Rattle.rules.specs.computed.Reading.{token-fault, lowest, one-more}
-use Rattle.rules.proofs.Links.{behind-more, behind-items-more}
-use Rattle.rules.proofs.Machine.{Expect, some-items, more-items, a-type, Stack, on, stuck, step, close-byte}
+use Rattle.rules.specs.Numbers.{text-most, text-nodes-most, items-most}
+use Rattle.rules.specs.Numbering.{behind}
+use Rattle.rules.specs.Refusals.{an-item, nothing-new, one-of, unexpected, one-too-many}
+use Rattle.rules.specs.computed.Reading.{token-fault}
+use Rattle.rules.proofs.Links.{behind-more}
+use Rattle.rules.proofs.Machine.{Expect, some-items, more-items, a-type, Stack, on, step, close-byte}
 use Rattle.rules.proofs.Machine as expect
 use Rattle.rules.proofs.Reached.{Reached, Refuses, reached-fault}
 use Rattle.rules.proofs.OneToken.{counted, opens-symbol, begins-symbol, next-symbol, fault-symbol, fault-long, nodes-same, brackets-plain}
 use Rattle.rules.proofs.TokensBehind.{tokens-behind}
-use Rattle.cursor.specs.Takes.{Ahead, Takes, kind, first-kind, reserved-kind, word-kind, end-kind}
+use Rattle.cursor.specs.Takes.{Ahead, Takes, kind, reserved-kind, word-kind, end-kind}
 use Rattle.cursor.specs.declared.Cursor.{Cursor}
 use Rattle.cursor.specs.declared.Taken.{Taken}
 use Rattle.cursor.proofs.Symbols.{kind-of-byte}
-use Rattle.flat.specs.Flat.{room, list-from, a-session, sort-number, raw, raw-items, items-long, used, used-items, Holds, Stored, StoredItems, Kept, KeptBut}
+use Rattle.flat.specs.Flat.{room, list-from, a-session, sort-number, raw, raw-items, used, KeptBut}
 use Rattle.table.specs.declared.Sort.{Sort}
 use Rattle.type_reader.specs.Leaves.{ItemBegun, no-item, long-item, item-too-many, begins-item, is-sort}
-use Rattle.type_reader.specs.Answers.{Acts, first-spelled, as-item, alone, PastType, TypeGot, TypeRead, PastList, PastItems, ItemsGot, ItemsRead, ItemRead, RestRead}
+use Rattle.type_reader.specs.Answers.{Acts, first-spelled, as-item, alone, PastType, TypeGot, TypeRead, PastItems, ItemsGot, ItemsRead, ItemRead, RestRead}
 use Rattle.type_reader.specs.Answers as answers
 use Rattle.type_reader.specs.declared.Got.{Got}
 use Rattle.type_reader.specs.declared.Got.the-variants.{Past, Refused}
-use Rattle.type_reader.proofs.Took.{Took, took-byte, took-word, not-here, took-symbols, took-spelled, took-counted, took-fault, fault-here}
+use Rattle.type_reader.proofs.Took.{Took, took-word, not-here, took-symbols, took-counted, took-fault, fault-here}
 use Rattle.type_reader.proofs.Signs.{Plain}
 use Rattle.type_reader.proofs.Begins.{acts-step, acts-stuck}
-use Rattle.type_reader.proofs.Messages.{refused-items, ItemsRight, items-right, refused-type, past-type, holds-from, acts-self}
-use Rattle.type_reader.proofs.ItemSteps.{first-item, type-item, item-goes-on, item-stuck, IsSort, a-sort, sort-leads, sort-quiet, close-items, closing-sign, none-closes, rest-closes, rest-comma, rest-stuck}
+use Rattle.type_reader.proofs.Messages.{refused-type, past-type, holds-from, acts-self}
+use Rattle.type_reader.proofs.ItemSteps.{first-item, type-item, item-goes-on, item-stuck, a-sort, sort-leads, sort-quiet, close-items, closing-sign, none-closes, rest-closes, rest-comma, rest-stuck}
 use Rattle.type_reader.proofs.Lists.{list-closes, mark-taken, list-ended, kept-below, kept-from, one-written}
-use Rattle.type_reader.proofs.Frames.{Same, holds-more, stored-same, used-more}
+use Rattle.type_reader.proofs.Frames.{holds-more, stored-same, used-more}
 
 -- the first token's kind is its symbol's
 first-symbol : {s : List ℕ} {t : Taken} {ts : List Token} → Ahead s t ts → (u : Token) (k : List Token) → ts ≡ u ∷ k → kind (symbol u) ≡ t .kind

@@ -1,28 +1,21 @@
 -- The labels of a choice so far, and where the machine goes from a label and from what stands behind one.
 -- Assumes nothing.
-use mathlib.Core.Bool.{Bool, true, false, false≢true}
+use mathlib.Core.Bool.{true, false, false≢true}
 use mathlib.Core.List.{List, [], _∷_}
 use mathlib.Core.Path.{_≡_, refl, sym, ap, ap₂, _∙_}
 use mathlib.Mathlib.Data.Bool.Basic.{bool-eq-false}
 use Prim.Native.Char.{code}
 use Prim.Native.Nat.{ℕ, zero, suc, _+_, _*_, _<_, _≤_}
 use native.Mathlib.Decide.{decLt}
-use native.Mathlib.Numerals.{add-one}
 use native.Mathlib.Omega.{arith}
-use borrow.Author.Tests.{lt-leb, le-leb}
-use lib.Dec.{leb}
-use lib.ListN.{length, getD, set, length-set}
-use lib.Seq.{getD-set-same, getD-set-other}
+use lib.ListN.{length, getD}
 use Rattle.rules.specs.Basics.{part, same, first}
-use Rattle.rules.specs.Words.{word-most}
-use Rattle.rules.specs.Tokens.{Token, Symbol, word, reserved-word, one-byte, symbol}
-use Rattle.rules.specs.Numbers.{text-nodes-most, labels-most}
-use Rattle.rules.specs.Refusals.{a-label, nothing-new, one-of, among, one-too-many, label-twice}
-use Rattle.rules.specs.computed.Reading.{token-fault}
+use Rattle.rules.specs.Tokens.{Token, Symbol, word, reserved-word, one-byte}
+use Rattle.rules.specs.Refusals.{a-label, one-of, among}
 use Rattle.rules.proofs.Basics.{same-true, same-refl, some-below-true, some-below-at}
 use Rattle.rules.proofs.Machine.{this, a-type, more-labels, Stack, on, stuck, look, step}
 use Rattle.rules.proofs.Machine as expect
-use Rattle.rules.proofs.OneToken.{counted, next-symbol, fault-symbol}
+use Rattle.rules.proofs.OneToken.{next-symbol}
 use Rattle.flat.specs.Flat.{row, word-of, words-of}
 use Rattle.type_reader.proofs.Begins.{look-past, no-row}
 use Rattle.type_reader.proofs.Signs.{Plain}

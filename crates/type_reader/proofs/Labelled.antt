@@ -1,31 +1,30 @@
 -- The labels of a choice: one law for each answer of the two functions that read them.
 -- Assumes nothing.
-use mathlib.Core.Bool.{Bool, true, false, _&&_, _||_}
+use mathlib.Core.Bool.{true, false}
 use mathlib.Core.List.{List, [], _∷_, _++_}
 use mathlib.Core.Logic.{_⊎_, inl, inr}
-use mathlib.Core.Option.{none, some}
-use mathlib.Core.Path.{_≡_, refl, sym, ap, ap₂, _∙_}
+use mathlib.Core.Option.{none}
+use mathlib.Core.Path.{_≡_, refl, ap, ap₂, _∙_}
 use Prim.Native.Char.{code}
-use Prim.Native.Nat.{ℕ, zero, suc, _+_, _*_, _<_, _≤_}
+use Prim.Native.Nat.{ℕ, suc, _+_, _*_, _<_, _≤_}
 use native.Mathlib.Numerals.{add-one}
 use native.Mathlib.Omega.{arith}
 use borrow.Author.Tests.{lt-leb, le-leb}
 use lib.Dec.{leb}
-use lib.ListN.{length, getD, set, length-set}
-use lib.Seq.{getD-set-same, getD-set-other}
-use Rattle.rules.specs.Basics.{part, same}
+use lib.ListN.{length, getD}
+use Rattle.rules.specs.Basics.{part}
 use Rattle.rules.specs.Words.{word-most}
-use Rattle.rules.specs.Tokens.{Token, Symbol, word, one-byte, symbol, symbols, tokens}
-use Rattle.rules.specs.Notation.{Ty, Labels, last-label, label, sign, write-type, write-labels}
+use Rattle.rules.specs.Tokens.{Token, word, one-byte, symbol, symbols, tokens}
+use Rattle.rules.specs.Notation.{Ty, last-label, label}
 use Rattle.rules.specs.Numbers.{text-most, text-nodes-most, labels-most}
 use Rattle.rules.specs.Numbering.{behind, behind-labels}
 use Rattle.rules.specs.Refusals.{a-label, nothing-new, one-of, among, unexpected, one-too-many, Seen}
 use Rattle.rules.specs.Refusals as refusal
 use Rattle.rules.specs.computed.Reading.{token-fault, lowest, if-so}
 use Rattle.rules.proofs.Links.{behind-more}
-use Rattle.rules.proofs.Machine.{this, a-type, more-labels, Stack, on, step}
+use Rattle.rules.proofs.Machine.{this, a-type, more-labels, Stack}
 use Rattle.rules.proofs.Machine as expect
-use Rattle.rules.proofs.Reached.{Reached, Refuses}
+use Rattle.rules.proofs.Reached.{Reached}
 use Rattle.rules.proofs.TokenLists.{token-spelling}
 use Rattle.rules.proofs.OneToken.{counted, fault-symbol, fault-long}
 use Rattle.rules.proofs.TokensBehind.{tokens-behind}
@@ -33,10 +32,10 @@ use Rattle.cursor.specs.Takes.{Ahead, Takes, kind, word-kind}
 use Rattle.cursor.specs.declared.Cursor.{Cursor}
 use Rattle.cursor.specs.declared.Taken.{Taken}
 use Rattle.cursor.proofs.Symbols.{kind-of-word, kind-of-byte}
-use Rattle.flat.specs.Flat.{room, list-from, row, raw, raw-labels, labels-long, used, used-labels, word-of, words-of, Holds, Stored, StoredLabels, Kept, KeptBut}
+use Rattle.flat.specs.Flat.{room, list-from, row, raw, raw-labels, used, used-labels, words-of, Stored, StoredLabels, Kept, KeptBut}
 use Rattle.flat.proofs.Rows.{row-apart, row-at}
 use Rattle.type_reader.specs.Leaves.{Signed, Labelled, no-label, long-label, label-too-many, label-twice, labelled, word-at, stored-label}
-use Rattle.type_reader.specs.Answers.{alone, first-spelled, PastType, TypeGot, TypeRead, PastList, PastLabels, LabelsGot, LabelRead, MoreGot, MoreRead}
+use Rattle.type_reader.specs.Answers.{alone, PastType, TypeGot, TypeRead, PastList, LabelsGot, LabelRead, MoreGot, MoreRead}
 use Rattle.type_reader.specs.Answers as answers
 use Rattle.type_reader.specs.declared.Got.{Got}
 use Rattle.type_reader.specs.declared.Got.the-variants.{Past, Refused}
@@ -47,7 +46,7 @@ use Rattle.type_reader.proofs.Messages.{refused-type, past-type, holds-
 use Rattle.type_reader.proofs.ItemSteps.{close-labels}
 use Rattle.type_reader.proofs.LabelSteps.{among-words, among-no-words, words-long, words-same, label-leads, label-stuck, more-closes, more-bar, more-stuck, bar, bar-next}
 use Rattle.type_reader.proofs.Lists.{list-closes, mark-taken, list-ended, kept-below, kept-from}
-use Rattle.type_reader.proofs.Frames.{Same, holds-more, stored-same, used-more}
+use Rattle.type_reader.proofs.Frames.{holds-more, stored-same, used-more}
 
 -- a token's spelling is the part of the text that it takes
 pub spelled-part :

@@ -2,11 +2,11 @@
 -- Assumes nothing.
 use mathlib.Core.Bool.{true, false}
 use mathlib.Core.List.{List}
-use mathlib.Core.Path.{_≡_, sym, ap, ap₂, _∙_}
-use Prim.Native.Nat.{ℕ, _+_, _-_, _*_, _<_, _≤_}
+use mathlib.Core.Path.{_≡_, ap, ap₂, _∙_}
+use Prim.Native.Nat.{ℕ, _+_, _*_, _<_, _≤_}
 use native.Mathlib.Omega.{arith}
-use lib.ListN.{length, getD}
-use Rattle.rules.specs.Basics.{part, same, first}
+use lib.ListN.{getD}
+use Rattle.rules.specs.Basics.{part, same}
 use Rattle.rules.proofs.Basics.{first-found, part-at}
 use Rattle.flat.specs.Flat.{row, word-of, word-found}
 

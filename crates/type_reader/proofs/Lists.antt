@@ -1,26 +1,24 @@
 -- A list in brackets: its end, a mark between two entries, and one entry more in front.
 -- Assumes nothing.
-use mathlib.Core.Bool.{true, false}
 use mathlib.Core.List.{List, [], _∷_}
 use mathlib.Core.Logic.{_⊎_, inl, inr}
 use mathlib.Core.Option.{none}
-use mathlib.Core.Path.{_≡_, refl, sym, ap, _∙_}
-use Prim.Native.Nat.{ℕ, suc, _+_, _*_, _<_, _≤_}
+use mathlib.Core.Path.{_≡_, refl, _∙_}
+use Prim.Native.Nat.{ℕ, _+_, _<_, _≤_}
 use native.Mathlib.Omega.{arith}
 use lib.ListN.{length, getD, set}
-use lib.Seq.{getD-set-same, getD-set-other}
-use Rattle.rules.specs.Tokens.{Token, Symbol, one-byte, symbol, symbols}
-use Rattle.rules.specs.Numbers.{text-most, items-most}
-use Rattle.rules.specs.Refusals.{Begins, an-item, nothing-new, entries-after, names-after, bracket-closed}
+use lib.Seq.{getD-set-other}
+use Rattle.rules.specs.Tokens.{one-byte, symbols}
+use Rattle.rules.specs.Refusals.{Begins, nothing-new, entries-after, bracket-closed}
 use Rattle.rules.specs.computed.Reading.{token-fault}
 use Rattle.rules.proofs.Machine.{Stack, on, step}
 use Rattle.rules.proofs.Reached.{Reached}
 use Rattle.rules.proofs.OneToken.{counted, next-symbol, nodes-same, brackets-plain, brackets-shut}
 use Rattle.rules.proofs.TokensBehind.{tokens-behind}
-use Rattle.cursor.specs.Takes.{Takes, word-kind}
+use Rattle.cursor.specs.Takes.{Takes}
 use Rattle.cursor.specs.declared.Cursor.{Cursor}
 use Rattle.cursor.specs.declared.Taken.{Taken}
-use Rattle.flat.specs.Flat.{room, Holds, Kept, KeptBut}
+use Rattle.flat.specs.Flat.{KeptBut}
 use Rattle.type_reader.specs.Answers.{TypeRoom, alone, as-item, PastList}
 use Rattle.type_reader.proofs.Took.{took-byte, took-symbols, took-counted, fault-here}
 use Rattle.type_reader.proofs.Signs.{short-token, Plain}

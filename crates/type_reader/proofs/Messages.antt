@@ -1,30 +1,29 @@
 -- A message: its sign, its items in brackets, `;`, and the type that it goes on with. One law for each answer.
 -- Assumes nothing.
-use mathlib.Core.Bool.{true, false}
 use mathlib.Core.List.{List, [], _∷_}
 use mathlib.Core.Logic.{inl, inr}
 use mathlib.Core.Path.{_≡_, refl, sym, ap, subst, _∙_}
 use Prim.Native.Char.{code}
-use Prim.Native.Nat.{ℕ, zero, suc, _+_, _*_, _<_, _≤_}
+use Prim.Native.Nat.{ℕ, suc, _+_, _*_, _<_, _≤_}
 use native.Mathlib.Nat.{zero-add}
 use native.Mathlib.Numerals.{add-one}
 use native.Mathlib.Omega.{arith}
-use lib.ListN.{length, getD}
+use lib.ListN.{length}
 use Rattle.rules.specs.Tokens.{Token, Symbol, one-byte, symbols}
-use Rattle.rules.specs.Notation.{Way, Ty, message, Items, sign, message-sign, opening, write-type, write-items}
+use Rattle.rules.specs.Notation.{Way, Ty, message, Items, write-items}
 use Rattle.rules.specs.Numbers.{text-most, text-nodes-most, items-most}
 use Rattle.rules.specs.Numbering.{behind, behind-items}
 use Rattle.rules.specs.Refusals.{Begins, an-item, nothing-new}
 use Rattle.rules.proofs.Links.{behind-more, behind-items-more}
-use Rattle.rules.proofs.Machine.{a-type, this, some-items, Stack, on, step, in-message, open-byte}
+use Rattle.rules.proofs.Machine.{a-type, this, some-items, Stack, open-byte}
 use Rattle.rules.proofs.Reached.{Reached, Refuses}
 use Rattle.rules.proofs.OneToken.{counted}
 use Rattle.rules.proofs.TokensBehind.{tokens-behind}
-use Rattle.cursor.specs.Takes.{Takes, word-kind}
+use Rattle.cursor.specs.Takes.{Takes}
 use Rattle.cursor.specs.declared.Cursor.{Cursor}
 use Rattle.cursor.specs.declared.Taken.{Taken}
 use Rattle.flat.specs.Flat.{room, list-from, message-number, raw, raw-items, items-long, used, used-items, Holds, Stored, StoredItems, Kept}
-use Rattle.type_reader.specs.Leaves.{Begun, begun, not-begun, behind-node, Opened, Signed, stored-head}
+use Rattle.type_reader.specs.Leaves.{Begun, behind-node, Opened, Signed, stored-head}
 use Rattle.type_reader.specs.Answers.{Acts, PastType, TypeGot, TypeRead, PastItems, ItemsGot, ItemsRead, message-byte, alone}
 use Rattle.type_reader.specs.Answers as answers
 use Rattle.type_reader.specs.declared.Got.{Got}
@@ -33,7 +32,7 @@ use Rattle.type_reader.proofs.Took.{took-symbols}
 use Rattle.type_reader.proofs.Signs.{sign-refused, sign-past}
 use Rattle.type_reader.proofs.Nodes.{Shape, inside-deep, sign-took, node-full, no-bracket, behind-bracket}
 use Rattle.type_reader.proofs.Standing.{Standing, inside, type-read, message-begins, message-step, message-signs, message-bytes, open-items, items-next, semicolon, semicolon-next, opened-counts, signed-counts, kept-then, kept-same, same-then}
-use Rattle.type_reader.proofs.Frames.{Same, same-within, holds-same, items-length, items-same, stored-same, used-items-more, used-more, head-other, head-kept, head-holds}
+use Rattle.type_reader.proofs.Frames.{Same, same-within, holds-same, items-length, items-same, stored-same, used-items-more, head-other, head-kept, head-holds}
 
 pub holds-from : {a : List ℕ} {i : ℕ} (j : ℕ) {xs : List ℕ} → Holds a i xs → i ≡ j → Holds a j xs
 holds-from {a} j {xs} h e = rw (← e) h

@@ -3,7 +3,7 @@
 use mathlib.Core.Bool.{Bool, true, false}
 use mathlib.Core.List.{List}
 use mathlib.Core.Logic.{inl, inr}
-use mathlib.Core.Path.{_≡_, refl, sym, ap, _∙_}
+use mathlib.Core.Path.{_≡_, refl, ap, _∙_}
 use Prim.Native.Nat.{ℕ, _+_, _-_, _*_, _<_, _≤_}
 use native.Mathlib.Omega.{arith}
 use borrow.Author.Tests.{ltb-true}
@@ -11,7 +11,7 @@ use lib.Dec.{ltb}
 use lib.ListN.{length, set, length-set}
 use Rattle.rules.specs.Words.{word-most}
 use Rattle.rules.specs.Numbers.{text-most, text-nodes-most, brackets-most, items-most}
-use Rattle.cursor.specs.Takes.{Takes, reserved-kind, word-kind, end-kind}
+use Rattle.cursor.specs.Takes.{Takes, reserved-kind, end-kind}
 use Rattle.cursor.specs.declared.Cursor.{Cursor}
 use Rattle.cursor.specs.declared.Taken.{Taken}
 use Rattle.flat.specs.Flat.{room, list-from, row, a-use, a-session, end-number}

@@ -3,9 +3,9 @@
 use mathlib.Core.Bool.{Bool, true, false}
 use mathlib.Core.List.{List, [], _∷_}
 use mathlib.Core.Logic.{inl, inr}
-use mathlib.Core.Option.{none, some}
-use mathlib.Core.Path.{_≡_, refl, sym, ap, _∙_}
-use Prim.Native.Nat.{ℕ, suc, _+_, _<_, _≤_}
+use mathlib.Core.Option.{none}
+use mathlib.Core.Path.{_≡_, refl, ap, _∙_}
+use Prim.Native.Nat.{ℕ, _<_, _≤_}
 use native.Mathlib.Omega.{arith}
 use borrow.Author.Tests.{eqb-true, le-leb, lt-leb}
 use lib.Dec.{eqb, leb}
@@ -13,14 +13,14 @@ use lib.ListN.{length}
 use Rattle.rules.specs.Words.{word-most}
 use Rattle.rules.specs.Tokens.{Token, Symbol, word, reserved-word, one-byte, symbol, symbols}
 use Rattle.rules.specs.Numbers.{text-most, brackets-most}
-use Rattle.rules.specs.Refusals.{Begins, nothing-new, Seen}
+use Rattle.rules.specs.Refusals.{nothing-new, Seen}
 use Rattle.rules.specs.computed.Reading.{token-fault, lowest}
-use Rattle.rules.proofs.Machine.{Expect, this, Stack, Next, on, stuck, look, step}
+use Rattle.rules.proofs.Machine.{this, Stack, stuck, look, step}
 use Rattle.rules.proofs.Reached.{Reached, Refuses}
 use Rattle.rules.proofs.Taken.{this-step}
 use Rattle.rules.proofs.OneToken.{counted, opens-symbol, closes-symbol, begins-symbol, next-symbol, nodes-same, brackets-plain, brackets-opened}
 use Rattle.rules.proofs.TokensBehind.{tokens-behind}
-use Rattle.cursor.specs.Takes.{Ahead, Takes, first-kind, reserved-kind, word-kind, end-kind, kind}
+use Rattle.cursor.specs.Takes.{Ahead, Takes, reserved-kind, word-kind, kind}
 use Rattle.cursor.specs.declared.Cursor.{Cursor}
 use Rattle.cursor.specs.declared.Taken.{Taken}
 use Rattle.cursor.proofs.Symbols.{kind-of-byte}

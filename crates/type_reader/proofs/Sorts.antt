@@ -4,7 +4,7 @@ use mathlib.Core.Bool.{Bool, true, false, false≢true}
 use mathlib.Core.Path.{_≡_, refl}
 use Prim.Native.Nat.{ℕ, _<_}
 use borrow.Author.Tests.{leb-false, ltb-true}
-use lib.Dec.{leb, ltb}
+use lib.Dec.{leb}
 use Rattle.cursor.specs.Takes.{reserved-kind, word-kind}
 use Rattle.type_reader.specs.Leaves.{is-sort}
 

@@ -1,24 +1,23 @@
 -- Where a type is to be read, and what the cursor counts behind a byte that is taken.
 -- Assumes nothing.
 use mathlib.Core.Bool.{true, false}
-use mathlib.Core.List.{List, [], _∷_}
-use mathlib.Core.Logic.{inl, inr}
-use mathlib.Core.Path.{_≡_, refl, sym, ap, _∙_}
+use mathlib.Core.List.{List, _∷_}
+use mathlib.Core.Path.{_≡_, refl, _∙_}
 use Prim.Native.Char.{code}
-use Prim.Native.Nat.{ℕ, zero, suc, _+_, _*_, _<_, _≤_}
+use Prim.Native.Nat.{ℕ, _<_, _≤_}
 use native.Mathlib.Omega.{arith}
-use lib.ListN.{length, getD}
+use lib.ListN.{length}
 use Rattle.rules.specs.Basics.{first}
 use Rattle.rules.specs.Tokens.{Token, Symbol, one-byte}
-use Rattle.rules.specs.Notation.{Way, into, out, sign, message-sign, choice-sign, opening}
+use Rattle.rules.specs.Notation.{Way, into, out, message-sign, choice-sign, opening}
 use Rattle.rules.specs.Refusals.{Begins, an-item, a-label, nothing-new, one-of, entries-after}
 use Rattle.rules.proofs.Machine.{Expect, a-type, Stack, on, look, step, in-message, in-choice, open-byte}
 use Rattle.rules.proofs.Reached.{Reached}
 use Rattle.rules.proofs.OneToken.{counted, opens-symbol, closes-symbol, begins-symbol, next-symbol}
-use Rattle.cursor.specs.Takes.{Ahead, Takes, reserved-kind}
+use Rattle.cursor.specs.Takes.{Ahead, reserved-kind}
 use Rattle.cursor.specs.declared.Cursor.{Cursor}
 use Rattle.cursor.specs.declared.Taken.{Taken}
-use Rattle.flat.specs.Flat.{Kept, KeptBut}
+use Rattle.flat.specs.Flat.{Kept}
 use Rattle.type_reader.specs.Leaves.{Signed, signed, Opened, opened}
 use Rattle.type_reader.specs.Answers.{Acts, first-spelled, TypeRoom, TypeGot, TypeRead, message-byte, choice-byte}
 use Rattle.type_reader.specs.declared.Got.{Got}

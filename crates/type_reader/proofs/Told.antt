@@ -2,16 +2,15 @@
 -- answers as they come.
 -- Assumes nothing.
 use mathlib.Core.List.{List}
-use mathlib.Core.Logic.{inl, inr}
-use mathlib.Core.Path.{_≡_, refl, sym, ap, _∙_}
+use mathlib.Core.Path.{_≡_}
 use Prim.Native.Char.{code}
-use Prim.Native.Nat.{ℕ, _+_, _-_, _*_, _<_, _≤_}
+use Prim.Native.Nat.{ℕ, _+_, _*_, _<_, _≤_}
 use native.Mathlib.Omega.{arith}
 use lib.ListN.{length, set}
 use Rattle.rules.specs.Notation.{Way}
-use Rattle.rules.specs.Numbers.{text-most, text-nodes-most, items-most}
+use Rattle.rules.specs.Numbers.{text-most, text-nodes-most}
 use Rattle.rules.proofs.Machine.{open-byte, close-byte}
-use Rattle.cursor.specs.Takes.{Takes, reserved-kind}
+use Rattle.cursor.specs.Takes.{Takes}
 use Rattle.cursor.specs.declared.Cursor.{Cursor}
 use Rattle.cursor.specs.declared.Taken.{Taken}
 use Rattle.flat.specs.Flat.{room, list-from, a-session, message-number, choice-number}

@@ -1,10 +1,10 @@
 -- What a token that was taken does where a reader has got to.
 -- Assumes nothing.
 use mathlib.Core.Bool.{Bool, true, false, _&&_, _||_}
-use mathlib.Core.List.{List, [], _∷_, tail-eq-of-cons-eq}
+use mathlib.Core.List.{List, [], _∷_}
 use mathlib.Core.Option.{none, some}
-use mathlib.Core.Path.{_≡_, refl, sym, ap, _∙_}
-use Prim.Native.Nat.{ℕ, suc, _+_, _<_, _≤_}
+use mathlib.Core.Path.{_≡_, refl, ap, _∙_}
+use Prim.Native.Nat.{ℕ, _+_, _<_, _≤_}
 use native.Mathlib.Omega.{arith}
 use borrow.Author.Tests.{lt-leb}
 use lib.Dec.{leb}
@@ -13,12 +13,12 @@ use Rattle.rules.specs.Words.{word-most, reserved-words}
 use Rattle.rules.specs.Tokens.{Token, Symbol, word, reserved-word, one-byte, symbol, symbols}
 use Rattle.rules.specs.Numbers.{text-most, text-nodes-most, items-most, brackets-most}
 use Rattle.rules.specs.Refusals.{Begins, an-item, nothing-new, Seen, innermost, entries-after, names-after, seen-after, unexpected}
-use Rattle.rules.specs.computed.Reading.{token-fault, lowest, place}
+use Rattle.rules.specs.computed.Reading.{token-fault, lowest}
 use Rattle.rules.proofs.Machine.{Expect, Stack, on, stuck, step}
 use Rattle.rules.proofs.Reached.{Reached, Refuses, reached-on, reached-fault}
 use Rattle.rules.proofs.OneToken.{counted, opens-symbol, begins-symbol, nodes-symbol, next-symbol, brackets-symbol, seen-symbol, fault-symbol, refused-here}
 use Rattle.rules.proofs.TokensBehind.{tokens-behind}
-use Rattle.cursor.specs.Takes.{Ahead, behind-first, first-kind, first-length, reserved-kind, word-kind}
+use Rattle.cursor.specs.Takes.{Ahead, reserved-kind, word-kind}
 use Rattle.cursor.specs.declared.Taken.{Taken}
 use Rattle.cursor.proofs.Symbols.{First, first-byte, first-reserved, first-word}
 use Rattle.type_reader.specs.Answers.{first-spelled, TypeRoom, alone, as-item}

@@ -3,17 +3,16 @@
 -- Assumes nothing.
 use mathlib.Core.List.{List, [], _∷_}
 use mathlib.Core.Logic.{_⊎_}
-use mathlib.Core.Option.{Option, none, some}
 use mathlib.Core.Path.{_≡_}
 use Prim.Native.Char.{code}
 use Prim.Native.Nat.{ℕ, suc, _+_, _*_, _<_, _≤_}
 use lib.ListN.{length}
 use Rattle.rules.specs.Tokens.{Token, Symbol, symbol, symbols}
-use Rattle.rules.specs.Notation.{Way, into, out, Ty, Items, Labels, last-label, label, sign, parted, write-type, write-items, write-labels}
-use Rattle.rules.specs.Numbers.{text-most, text-nodes-most, labels-most, items-most, brackets-most}
+use Rattle.rules.specs.Notation.{Way, into, out, Ty, Items, Labels, sign, parted, write-type, write-items, write-labels}
+use Rattle.rules.specs.Numbers.{text-most, text-nodes-most, labels-most, items-most}
 use Rattle.rules.specs.Numbering.{behind, behind-items, behind-labels}
 use Rattle.rules.specs.Refusals.{Begins, a-label, an-item, nothing-new, innermost, entries-after}
-use Rattle.rules.proofs.Machine.{Expect, Stack, step, close-byte}
+use Rattle.rules.proofs.Machine.{Expect, Stack, step}
 use Rattle.rules.proofs.Machine as expect
 use Rattle.rules.proofs.Reached.{Reached, Refuses}
 use Rattle.rules.proofs.OneToken.{counted}

@@ -6,8 +6,8 @@ use mathlib.Core.Path.{_≡_}
 use Prim.Native.Char.{code}
 use Prim.Native.Nat.{ℕ, _+_, _-_, _*_, _<_, _≤_}
 use lib.Dec.{eqb, leb, ltb}
-use lib.ListN.{length, getD, set}
-use Rattle.rules.specs.Basics.{part, same, first}
+use lib.ListN.{set}
+use Rattle.rules.specs.Basics.{part, same}
 use Rattle.rules.specs.Words.{word-most}
 use Rattle.rules.specs.Numbers.{text-nodes-most, labels-most, items-most, brackets-most}
 use Rattle.rules.specs.Refusals as refusal

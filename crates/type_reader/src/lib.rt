@@ -5,8 +5,13 @@ use cursor::NOTHING;
 use cursor::RESERVED;
 use cursor::Taken;
 use cursor::WORD;
+use flat::A_BRANCH;
+use flat::A_CHOOSE;
+use flat::A_RECEIVE;
+use flat::A_SEND;
 use flat::A_SESSION;
 use flat::A_USE;
+use flat::AN_END;
 use flat::COUNT;
 use flat::GOES_ON;
 use flat::LIST;
@@ -20,7 +25,9 @@ use table::LABELS_MOST;
 use words::WORD_MOST;
 ghost use mathlib.Core.Path.{_≡_};
 ghost use Prim.Native.Nat.{_+_, _*_, _<_, _≤_};
+ghost use lib.Dec.{ltb};
 ghost use lib.ListN.{length};
+ghost use Rattle.rules.specs.Words.{word-most};
 ghost use Rattle.rules.specs.Notation.{Way};
 ghost use Rattle.rules.specs.Numbers.{text-most, text-nodes-most, labels-most, items-most, brackets-most};
 ghost use Rattle.rules.proofs.Machine.{open-byte, close-byte};
@@ -34,10 +41,57 @@ pub const TEXT_NODES_MOST: usize = 64;
 
 pub const BRACKETS_MOST: usize = 16;
 
+// The column "No." of document 01's refusal list.
+pub const UNEXPECTED: usize = 2;
+
+pub const WORD_TOO_LONG: usize = 3;
+
+pub const BRACKET_TOO_MANY: usize = 4;
+
+pub const ONE_TOO_MANY: usize = 5;
+
+pub const LABEL_TWICE: usize = 6;
+
+// The tokens of one byte.
+const RECEIVE: u16 = b'?' as u16;
+
+const SEND: u16 = b'!' as u16;
+
+const BRANCH: u16 = b'&' as u16;
+
+const CHOOSE: u16 = b'+' as u16;
+
+const RECEIVE_OPENS: u16 = b'(' as u16;
+
+const RECEIVE_CLOSES: u16 = b')' as u16;
+
+const SEND_OPENS: u16 = b'[' as u16;
+
+const SEND_CLOSES: u16 = b']' as u16;
+
+const COMMA: u16 = b',' as u16;
+
+const SEMICOLON: u16 = b';' as u16;
+
+const CHOICE_OPENS: u16 = b'{' as u16;
+
+const CHOICE_CLOSES: u16 = b'}' as u16;
+
+const COLON: u16 = b':' as u16;
+
+const BAR: u16 = b'|' as u16;
+
 // What was read, with the cursor behind it: of a type its link, of a list its count; or a refusal.
 pub enum Got {
     Past { value: u16, next: Cursor },
     Refused { number: usize, place: usize },
+}
+
+// "word over 16 bytes"
+pub fn too_long(len: usize) -> bool
+    ensures { λ r. ⌜ r ≡ ltb word-most len ⌝ }
+{
+    WORD_MOST < len
 }
 
 // The byte b, or refusal 2.
@@ -51,7 +105,7 @@ pub fn sign(s: &[u8], c: Cursor, b: u16) -> Got
         return Got::Past { value: 0, next };
     }
     Got::Refused {
-        number: 2,
+        number: UNEXPECTED,
         place: t.at,
     }
 }
@@ -64,13 +118,13 @@ fn bracket(s: &[u8], c: Cursor, b: u16, deep: usize) -> Got
     let t = c.take(s);
     if t.kind != b {
         return Got::Refused {
-            number: 2,
+            number: UNEXPECTED,
             place: t.at,
         };
     }
     if BRACKETS_MOST <= deep {
         return Got::Refused {
-            number: 4,
+            number: BRACKET_TOO_MANY,
             place: t.at,
         };
     }
@@ -87,7 +141,7 @@ fn begin_node(t: Taken) -> Got
     let n = c.nodes;
     if TEXT_NODES_MOST <= n {
         return Got::Refused {
-            number: 5,
+            number: ONE_TOO_MANY,
             place: t.at,
         };
     }
@@ -106,9 +160,9 @@ fn use_name(uses: &mut [u16; TEXT_MOST], t: Taken) -> Got
     requires { ⌜ (t .next .uses < text-most) × (t .at < text-most) × (length (now uses) ≡ text-most) ⌝ }
     ensures { λ r. ⌜ Used t (now (uses .entry)) (now (uses .exit)) r ⌝ }
 {
-    if WORD_MOST < t.len {
+    if too_long(t.len) {
         return Got::Refused {
-            number: 3,
+            number: WORD_TOO_LONG,
             place: t.at,
         };
     }
@@ -143,7 +197,7 @@ fn read_end(nodes: &mut [u16; TEXT_MOST], t: Taken) -> Got
     let Got::Past { value, next: _ } = r else {
         return r;
     };
-    store(nodes, value as usize, 0, 0, 0);
+    store(nodes, value as usize, AN_END, 0, 0);
     r
 }
 
@@ -151,16 +205,16 @@ fn read_end(nodes: &mut [u16; TEXT_MOST], t: Taken) -> Got
 fn begins_type(k: u16) -> bool
     ensures { λ r. ⌜ r ≡ begins-type k ⌝ }
 {
-    if k == 63 {
+    if k == RECEIVE {
         return true;
     }
-    if k == 33 {
+    if k == SEND {
         return true;
     }
-    if k == 38 {
+    if k == BRANCH {
         return true;
     }
-    k == 43
+    k == CHOOSE
 }
 
 // Whether an item begins with the token: a type's byte, a reserved word or a name.
@@ -191,19 +245,19 @@ fn item(t: Taken, n: usize) -> Got
     let next = t.next;
     if !begins_item(k) {
         return Got::Refused {
-            number: 2,
+            number: UNEXPECTED,
             place: t.at,
         };
     }
-    if WORD_MOST < t.len {
+    if too_long(t.len) {
         return Got::Refused {
-            number: 3,
+            number: WORD_TOO_LONG,
             place: t.at,
         };
     }
     if ITEMS_MOST <= n {
         return Got::Refused {
-            number: 5,
+            number: ONE_TOO_MANY,
             place: t.at,
         };
     }
@@ -221,32 +275,33 @@ fn item(t: Taken, n: usize) -> Got
 
 // The label that is t, behind n others of its node.
 fn label(s: &[u8], nodes: &[u16; TEXT_MOST], t: Taken, node: usize, n: usize) -> Got
-    requires { ⌜ (node < text-nodes-most) × (length (now nodes) ≡ text-most) ⌝ }
+    requires { ⌜ (node < text-nodes-most) × (n ≤ labels-most) × (length (now nodes) ≡ text-most) ⌝ }
     ensures { λ r. ⌜ Labelled (now (s .entry)) (now (nodes .entry)) (node * room + list-from) t n r ⌝ }
 {
     if t.kind != WORD {
         return Got::Refused {
-            number: 2,
+            number: UNEXPECTED,
             place: t.at,
         };
     }
-    if WORD_MOST < t.len {
+    if too_long(t.len) {
         return Got::Refused {
-            number: 3,
-            place: t.at,
-        };
-    }
-    if LABELS_MOST <= n {
-        return Got::Refused {
-            number: 5,
+            number: WORD_TOO_LONG,
             place: t.at,
         };
     }
     let all = &nodes[..];
     let rows = &all[node * NODE_ROOM + LIST..];
-    if find_word(s, rows, n, word_at(s, t.at, t.len)) < n {
+    let first = find_word(s, rows, n, word_at(s, t.at, t.len));
+    if LABELS_MOST <= n {
         return Got::Refused {
-            number: 6,
+            number: ONE_TOO_MANY,
+            place: t.at,
+        };
+    }
+    if first < n {
+        return Got::Refused {
+            number: LABEL_TWICE,
             place: t.at,
         };
     }
@@ -283,20 +338,29 @@ pub fn read_type(
     if k == RESERVED {
         return read_end(nodes, t);
     }
-    if k == 63 {
-        return read_message(s, nodes, uses, t, deep, 40, 41, 1);
+    if k == RECEIVE {
+        return read_message(
+            s,
+            nodes,
+            uses,
+            t,
+            deep,
+            RECEIVE_OPENS,
+            RECEIVE_CLOSES,
+            A_RECEIVE,
+        );
     }
-    if k == 33 {
-        return read_message(s, nodes, uses, t, deep, 91, 93, 2);
+    if k == SEND {
+        return read_message(s, nodes, uses, t, deep, SEND_OPENS, SEND_CLOSES, A_SEND);
     }
-    if k == 38 {
-        return read_choice(s, nodes, uses, t, deep, 3);
+    if k == BRANCH {
+        return read_choice(s, nodes, uses, t, deep, A_BRANCH);
     }
-    if k == 43 {
-        return read_choice(s, nodes, uses, t, deep, 4);
+    if k == CHOOSE {
+        return read_choice(s, nodes, uses, t, deep, A_CHOOSE);
     }
     Got::Refused {
-        number: 2,
+        number: UNEXPECTED,
         place: t.at,
     }
 }
@@ -328,11 +392,13 @@ fn read_message(
     let Got::Past { value: _, next: c2 } = r2 else {
         return r2;
     };
-    let r3 = read_items(s, nodes, uses, c2, deep + 1, node as usize, closing);
+    let number = node as usize;
+    let inner = deep + 1;
+    let r3 = read_items(s, nodes, uses, c2, inner, number, closing);
     let Got::Past { value: n, next: c3 } = r3 else {
         return r3;
     };
-    let r4 = sign(s, c3, 59);
+    let r4 = sign(s, c3, SEMICOLON);
     let Got::Past { value: _, next: c4 } = r4 else {
         return r4;
     };
@@ -344,7 +410,7 @@ fn read_message(
     else {
         return r5;
     };
-    store(nodes, node as usize, kind, n, link);
+    store(nodes, number, kind, n, link);
     Got::Past {
         value: node,
         next: c5,
@@ -435,11 +501,11 @@ fn read_rest(
             next,
         };
     }
-    if t.kind == 44 {
+    if t.kind == COMMA {
         return read_item(s, nodes, uses, next.take(s), deep, node, closing, n);
     }
     Got::Refused {
-        number: 2,
+        number: UNEXPECTED,
         place: t.at,
     }
 }
@@ -465,15 +531,16 @@ fn read_choice(
     else {
         return r1;
     };
-    let r2 = bracket(s, c1, 123, deep);
+    let r2 = bracket(s, c1, CHOICE_OPENS, deep);
     let Got::Past { value: _, next: c2 } = r2 else {
         return r2;
     };
-    let r3 = read_label(s, nodes, uses, c2.take(s), deep + 1, node as usize, 0);
+    let number = node as usize;
+    let r3 = read_label(s, nodes, uses, c2.take(s), deep + 1, number, 0);
     let Got::Past { value: n, next: c3 } = r3 else {
         return r3;
     };
-    store(nodes, node as usize, kind, n, 0);
+    store(nodes, number, kind, n, 0);
     Got::Past {
         value: node,
         next: c3,
@@ -490,7 +557,7 @@ fn read_label(
     node: usize,
     n: usize,
 ) -> Got
-    requires { ⌜ TokenReady (now s) (now nodes) (now uses) t × (deep ≤ brackets-most) × (node < t .next .nodes) ⌝ }
+    requires { ⌜ TokenReady (now s) (now nodes) (now uses) t × (deep ≤ brackets-most) × (node < t .next .nodes) × (n ≤ labels-most) ⌝ }
     ensures { λ r. ⌜ Sound (now (s .entry)) (now (nodes .exit)) (now (uses .exit)) (t .at) (t .next .nodes) r ⌝ }
     ensures { λ r. ⌜ LabelRead (now (s .entry)) (now (nodes .entry)) (now (uses .entry)) (now (nodes .exit)) (now (uses .exit)) t deep node n r ⌝ }
 {
@@ -498,7 +565,7 @@ fn read_label(
     let Got::Past { value: _, next: c1 } = r1 else {
         return r1;
     };
-    let r2 = sign(s, c1, 58);
+    let r2 = sign(s, c1, COLON);
     let Got::Past { value: _, next: c2 } = r2 else {
         return r2;
     };
@@ -530,17 +597,17 @@ fn read_more(
 {
     let t = c.take(s);
     let next = t.next;
-    if t.kind == 125 {
+    if t.kind == CHOICE_CLOSES {
         return Got::Past {
             value: n as u16,
             next,
         };
     }
-    if t.kind == 124 {
+    if t.kind == BAR {
         return read_label(s, nodes, uses, next.take(s), deep, node, n);
     }
     Got::Refused {
-        number: 2,
+        number: UNEXPECTED,
         place: t.at,
     }
 }

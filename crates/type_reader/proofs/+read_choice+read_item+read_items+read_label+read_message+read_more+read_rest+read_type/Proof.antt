@@ -194,17 +194,17 @@ read-choice-enum-told-2 t c = search needs
 read-choice-returns-2 : (t : ℕ) → read-choice-lts.Need-returns-2 (read-choice-env t) (read-choice-at t) read-choice.Post
 read-choice-returns-2 t c = (sound-refused (c .enum-told2 .given .1), λ d k y. choice-told₂ _ (c .before .before .before .before .before .before .before .before .pre .1 .0) (c .before .before .before .before .before .before .begin-node .ensures) (c .before .before .before .before .r1 .given .1) (c .before .before .bracket .ensures) (c .enum-told2 .given .1) d k refl)
 
+read-choice-cast-number : (t : ℕ) → read-choice-lts.Need-cast-number (read-choice-env t) (read-choice-at t) read-choice.Post
+read-choice-cast-number t c = omega (arith, (begun-ready (c .before .before .before .before .before .before .before .before .before .pre .1 .0) (c .before .before .before .before .before .before .before .begin-node .ensures) (c .before .before .before .before .before .r1 .given .1)) .few)
+
 read-choice-take-requires : (t : ℕ) → read-choice-lts.Need-take-requires (read-choice-env t) (read-choice-at t) read-choice.Post
 read-choice-take-requires t c κs = search needs
 
 read-choice-add-read-label : (t : ℕ) → read-choice-lts.Need-add-read-label (read-choice-env t) (read-choice-at t) read-choice.Post
 read-choice-add-read-label t c = omega (arith, (c .before .before .before .before .before .before .before .before .before .before .before .before .pre .1 .1))
 
-read-choice-cast-read-label : (t : ℕ) → read-choice-lts.Need-cast-read-label (read-choice-env t) (read-choice-at t) read-choice.Post
-read-choice-cast-read-label t c = omega (arith, (begun-ready (c .before .before .before .before .before .before .before .before .before .before .before .before .pre .1 .0) (c .before .before .before .before .before .before .before .before .before .before .begin-node .ensures) (c .before .before .before .before .before .before .before .before .r1 .given .1)) .few)
-
 read-choice-read-label-requires : (t : ℕ) → read-choice-lts.Need-read-label-requires (read-choice-env t) (read-choice-at t) read-choice.Post
-read-choice-read-label-requires t c κs = let b = (begun-ready (c .before .before .before .before .before .before .before .before .before .before .before .before .pre .1 .0) (c .before .before .before .before .before .before .before .before .before .before .begin-node .ensures) (c .before .before .before .before .before .before .before .before .r1 .given .1)) in let o = (opened-onward ((begun-ready (c .before .before .before .before .before .before .before .before .before .before .before .before .pre .1 .0) (c .before .before .before .before .before .before .before .before .before .before .begin-node .ensures) (c .before .before .before .before .before .before .before .before .r1 .given .1)) .ready) (c .before .before .before .before .before .before .bracket .ensures) (c .before .before .before .before .r2 .given .1) (omega arith)) in let k = (c .take .ensures ((opened-onward ((begun-ready (c .before .before .before .before .before .before .before .before .before .before .before .before .pre .1 .0) (c .before .before .before .before .before .before .before .before .before .before .begin-node .ensures) (c .before .before .before .before .before .before .before .before .r1 .given .1)) .ready) (c .before .before .before .before .before .before .bracket .ensures) (c .before .before .before .before .r2 .given .1) (omega arith)) .0 .ready .inside)) in (omega (arith, c .before .before .before .before .before .before .before .before .before .before .before .before .pre .0, o .0 .further, b .place, (c .before .before .before .before .before .before .before .before .before .before .before .before .pre .1 .0) .order, (c .before .before .before .before .before .before .before .before .before .before .before .before .pre .1 .2), k .from, o .0 .ready .inside), (take-ready (o .0 .ready) k, omega (arith, o .1), omega (arith, b .nodes, o .0 .nodes, k .nodes)))
+read-choice-read-label-requires t c κs = let b = (begun-ready (c .before .before .before .before .before .before .before .before .before .before .before .before .pre .1 .0) (c .before .before .before .before .before .before .before .before .before .before .begin-node .ensures) (c .before .before .before .before .before .before .before .before .r1 .given .1)) in let o = (opened-onward ((begun-ready (c .before .before .before .before .before .before .before .before .before .before .before .before .pre .1 .0) (c .before .before .before .before .before .before .before .before .before .before .begin-node .ensures) (c .before .before .before .before .before .before .before .before .r1 .given .1)) .ready) (c .before .before .before .before .before .before .bracket .ensures) (c .before .before .before .before .r2 .given .1) (omega arith)) in let k = (c .take .ensures ((opened-onward ((begun-ready (c .before .before .before .before .before .before .before .before .before .before .before .before .pre .1 .0) (c .before .before .before .before .before .before .before .before .before .before .begin-node .ensures) (c .before .before .before .before .before .before .before .before .r1 .given .1)) .ready) (c .before .before .before .before .before .before .bracket .ensures) (c .before .before .before .before .r2 .given .1) (omega arith)) .0 .ready .inside)) in (omega (arith, c .before .before .before .before .before .before .before .before .before .before .before .before .pre .0, o .0 .further, b .place, (c .before .before .before .before .before .before .before .before .before .before .before .before .pre .1 .0) .order, (c .before .before .before .before .before .before .before .before .before .before .before .before .pre .1 .2), k .from, o .0 .ready .inside), (take-ready (o .0 .ready) k, omega (arith, o .1), omega (arith, b .nodes, o .0 .nodes, k .nodes), omega arith))
 
 read-choice-enum-known-r3 : (t : ℕ) → read-choice-lts.Need-enum-known-r3 (read-choice-env t) (read-choice-at t) read-choice.Post
 read-choice-enum-known-r3 t c = search needs
@@ -214,9 +214,6 @@ read-choice-enum-told-3 t c = search needs
 
 read-choice-returns-3 : (t : ℕ) → read-choice-lts.Need-returns-3 (read-choice-env t) (read-choice-at t) read-choice.Post
 read-choice-returns-3 t c = (sound-refused (c .enum-told3 .given .1), λ d k y. choice-told₃ _ (c .before .before .before .before .before .before .before .before .before .before .before .before .before .before .before .pre .1 .0) (c .before .before .before .before .before .before .before .before .before .before .before .before .before .begin-node .ensures) (c .before .before .before .before .before .before .before .before .before .before .before .r1 .given .1) (c .before .before .before .before .before .before .before .before .before .bracket .ensures) (c .before .before .before .before .before .before .before .r2 .given .1) (c .before .before .before .take .ensures ((opened-onward ((begun-ready (c .before .before .before .before .before .before .before .before .before .before .before .before .before .before .before .pre .1 .0) (c .before .before .before .before .before .before .before .before .before .before .before .before .before .begin-node .ensures) (c .before .before .before .before .before .before .before .before .before .before .before .r1 .given .1)) .ready) (c .before .before .before .before .before .before .before .before .before .bracket .ensures) (c .before .before .before .before .before .before .before .r2 .given .1) (omega arith)) .0 .ready .inside)) (c .before .before .read-label .ensures .1) (c .enum-told3 .given .1) d k refl)
-
-read-choice-cast-store : (t : ℕ) → read-choice-lts.Need-cast-store (read-choice-env t) (read-choice-at t) read-choice.Post
-read-choice-cast-store t c = omega (arith, (begun-ready (c .before .before .before .before .before .before .before .before .before .before .before .before .before .before .before .before .before .pre .1 .0) (c .before .before .before .before .before .before .before .before .before .before .before .before .before .before .before .begin-node .ensures) (c .before .before .before .before .before .before .before .before .before .before .before .before .before .r1 .given .1)) .few)
 
 read-choice-store-requires : (t : ℕ) → read-choice-lts.Need-store-requires (read-choice-env t) (read-choice-at t) read-choice.Post
 read-choice-store-requires t c κs = (begun-ready (c .before .before .before .before .before .before .before .before .before .before .before .before .before .before .before .before .before .pre .1 .0) (c .before .before .before .before .before .before .before .before .before .before .before .before .before .before .before .begin-node .ensures) (c .before .before .before .before .before .before .before .before .before .before .before .before .before .r1 .given .1)) .few
@@ -312,7 +309,7 @@ read-items-returns-2 : (t : ℕ) → read-items-lts.Need-returns-2 (read-items-e
 read-items-returns-2 t c = let k = (c .before .before .before .before .before .take .ensures ((c .before .before .before .before .before .before .before .pre .1 .0) .inside)) in (sound-on (c .read-item .ensures .0) (k .from) (omega (arith, k .nodes)), λ d x. items-some ((c .before .before .before .before .before .before .before .pre .1 .0) .short) d k (λ q. c .before .before .before .if1 .left (q ∙ sym x)) (c .read-item .ensures .1 d x))
 
 read-label-label-requires : (t : ℕ) → read-label-lts.Need-label-requires (read-label-env t) (read-label-at t) read-label.Post
-read-label-label-requires t c κs = (omega (arith, (c .before .before .pre .1 .2), (c .before .before .pre .1 .0) .ready .few-nodes), (c .before .before .pre .1 .0) .ready .room-nodes)
+read-label-label-requires t c κs = (omega (arith, (c .before .before .pre .1 .2), (c .before .before .pre .1 .0) .ready .few-nodes), (c .before .before .pre .1 .3), (c .before .before .pre .1 .0) .ready .room-nodes)
 
 read-label-enum-known-r1 : (t : ℕ) → read-label-lts.Need-enum-known-r1 (read-label-env t) (read-label-at t) read-label.Post
 read-label-enum-known-r1 t c = search needs
@@ -386,11 +383,11 @@ read-message-enum-told-2 t c = search needs
 read-message-returns-2 : (t : ℕ) → read-message-lts.Need-returns-2 (read-message-env t) (read-message-at t) read-message.Post
 read-message-returns-2 t c = (sound-refused (c .enum-told2 .given .1), λ d k o x y. message-told₂ _ (c .before .before .before .before .before .before .before .before .pre .1 .0) (c .before .before .before .before .before .before .begin-node .ensures) (c .before .before .before .before .r1 .given .1) (c .before .before .bracket .ensures) (c .enum-told2 .given .1) d k o)
 
-read-message-add-read-items : (t : ℕ) → read-message-lts.Need-add-read-items (read-message-env t) (read-message-at t) read-message.Post
-read-message-add-read-items t c = omega (arith, (c .before .before .before .before .before .before .before .before .before .before .before .pre .1 .1))
+read-message-cast-number : (t : ℕ) → read-message-lts.Need-cast-number (read-message-env t) (read-message-at t) read-message.Post
+read-message-cast-number t c = omega (arith, (begun-ready (c .before .before .before .before .before .before .before .before .before .pre .1 .0) (c .before .before .before .before .before .before .before .begin-node .ensures) (c .before .before .before .before .before .r1 .given .1)) .few)
 
-read-message-cast-read-items : (t : ℕ) → read-message-lts.Need-cast-read-items (read-message-env t) (read-message-at t) read-message.Post
-read-message-cast-read-items t c = omega (arith, (begun-ready (c .before .before .before .before .before .before .before .before .before .before .before .pre .1 .0) (c .before .before .before .before .before .before .before .before .before .begin-node .ensures) (c .before .before .before .before .before .before .before .r1 .given .1)) .few)
+read-message-add-inner : (t : ℕ) → read-message-lts.Need-add-inner (read-message-env t) (read-message-at t) read-message.Post
+read-message-add-inner t c = omega (arith, (c .before .before .before .before .before .before .before .before .before .pre .1 .1))
 
 read-message-read-items-requires : (t : ℕ) → read-message-lts.Need-read-items-requires (read-message-env t) (read-message-at t) read-message.Post
 read-message-read-items-requires t c κs = let b = (begun-ready (c .before .before .before .before .before .before .before .before .before .before .before .pre .1 .0) (c .before .before .before .before .before .before .before .before .before .begin-node .ensures) (c .before .before .before .before .before .before .before .r1 .given .1)) in let o = (opened-onward ((begun-ready (c .before .before .before .before .before .before .before .before .before .before .before .pre .1 .0) (c .before .before .before .before .before .before .before .before .before .begin-node .ensures) (c .before .before .before .before .before .before .before .r1 .given .1)) .ready) (c .before .before .before .before .before .bracket .ensures) (c .before .before .before .r2 .given .1) (omega (arith, (c .before .before .before .before .before .before .before .before .before .before .before .pre .1 .3)))) in (omega (arith, c .before .before .before .before .before .before .before .before .before .before .before .pre .0, o .0 .further, b .place, (c .before .before .before .before .before .before .before .before .before .before .before .pre .1 .0) .order, (c .before .before .before .before .before .before .before .before .before .before .before .pre .1 .2), o .0 .ready .inside), (o .0 .ready, omega (arith, o .1), omega (arith, b .nodes, o .0 .nodes), (c .before .before .before .before .before .before .before .before .before .before .before .pre .1 .4)))
@@ -431,9 +428,6 @@ read-message-enum-told-5 t c = search needs
 read-message-returns-5 : (t : ℕ) → read-message-lts.Need-returns-5 (read-message-env t) (read-message-at t) read-message.Post
 read-message-returns-5 t c = (sound-refused (c .enum-told5 .given .1), λ d k o x y. message-told₅ _ (c .before .before .before .before .before .before .before .before .before .before .before .before .before .before .before .before .before .before .before .before .before .before .before .before .before .pre .1 .0) (c .before .before .before .before .before .before .before .before .before .before .before .before .before .before .before .before .before .before .before .before .before .before .before .begin-node .ensures) (c .before .before .before .before .before .before .before .before .before .before .before .before .before .before .before .before .before .before .before .before .before .r1 .given .1) (c .before .before .before .before .before .before .before .before .before .before .before .before .before .before .before .before .before .before .before .bracket .ensures) (c .before .before .before .before .before .before .before .before .before .before .before .before .before .before .before .before .before .r2 .given .1) (c .before .before .before .before .before .before .before .before .before .before .before .before .before .read-items .ensures .1) (c .before .before .before .before .before .before .before .before .before .before .before .r3 .given .1) (c .before .before .before .before .before .before .before .before .before .sign .ensures) (c .before .before .before .before .before .before .before .r4 .given .1) (c .before .before .before .take .ensures ((signed-onward ((sound-past (c .before .before .before .before .before .before .before .before .before .before .before .before .before .read-items .ensures .0) (c .before .before .before .before .before .before .before .before .before .before .before .r3 .given .1)) .ready) (c .before .before .before .before .before .before .before .before .before .sign .ensures) (c .before .before .before .before .before .before .before .r4 .given .1) (omega arith)) .ready .inside)) (c .before .before .read-type .ensures .1) (c .enum-told5 .given .1) d k o x)
 
-read-message-cast-store : (t : ℕ) → read-message-lts.Need-cast-store (read-message-env t) (read-message-at t) read-message.Post
-read-message-cast-store t c = omega (arith, (begun-ready (c .before .before .before .before .before .before .before .before .before .before .before .before .before .before .before .before .before .before .before .before .before .before .before .before .before .before .before .pre .1 .0) (c .before .before .before .before .before .before .before .before .before .before .before .before .before .before .before .before .before .before .before .before .before .before .before .before .before .begin-node .ensures) (c .before .before .before .before .before .before .before .before .before .before .before .before .before .before .before .before .before .before .before .before .before .before .before .r1 .given .1)) .few)
-
 read-message-store-requires : (t : ℕ) → read-message-lts.Need-store-requires (read-message-env t) (read-message-at t) read-message.Post
 read-message-store-requires t c κs = (begun-ready (c .before .before .before .before .before .before .before .before .before .before .before .before .before .before .before .before .before .before .before .before .before .before .before .before .before .before .before .pre .1 .0) (c .before .before .before .before .before .before .before .before .before .before .before .before .before .before .before .before .before .before .before .before .before .before .before .before .before .begin-node .ensures) (c .before .before .before .before .before .before .before .before .before .before .before .before .before .before .before .before .before .before .before .before .before .before .before .r1 .given .1)) .few
 
@@ -453,7 +447,7 @@ read-more-take-requires-2 : (t : ℕ) → read-more-lts.Need-take-requires-2 (re
 read-more-take-requires-2 t c κs = search needs
 
 read-more-read-label-requires : (t : ℕ) → read-more-lts.Need-read-label-requires (read-more-env t) (read-more-at t) read-more.Post
-read-more-read-label-requires t c κs = let w = (onward-taken (c .before .before .before .before .before .before .before .before .before .before .pre .1 .0) (c .before .before .before .before .before .before .before .before .take .ensures ((c .before .before .before .before .before .before .before .before .before .before .pre .1 .0) .inside)) (c .before .before .before .if2 .taken) (omega arith)) in let k = (c .take2 .ensures ((onward-taken (c .before .before .before .before .before .before .before .before .before .before .pre .1 .0) (c .before .before .before .before .before .before .before .before .take .ensures ((c .before .before .before .before .before .before .before .before .before .before .pre .1 .0) .inside)) (c .before .before .before .if2 .taken) (omega arith)) .ready .inside)) in (omega (arith, c .before .before .before .before .before .before .before .before .before .before .pre .0, w .further, k .from, w .ready .inside), (take-ready (w .ready) k, (c .before .before .before .before .before .before .before .before .before .before .pre .1 .1), omega (arith, (c .before .before .before .before .before .before .before .before .before .before .pre .1 .2), w .nodes, k .nodes)))
+read-more-read-label-requires t c κs = let w = (onward-taken (c .before .before .before .before .before .before .before .before .before .before .pre .1 .0) (c .before .before .before .before .before .before .before .before .take .ensures ((c .before .before .before .before .before .before .before .before .before .before .pre .1 .0) .inside)) (c .before .before .before .if2 .taken) (omega arith)) in let k = (c .take2 .ensures ((onward-taken (c .before .before .before .before .before .before .before .before .before .before .pre .1 .0) (c .before .before .before .before .before .before .before .before .take .ensures ((c .before .before .before .before .before .before .before .before .before .before .pre .1 .0) .inside)) (c .before .before .before .if2 .taken) (omega arith)) .ready .inside)) in (omega (arith, c .before .before .before .before .before .before .before .before .before .before .pre .0, w .further, k .from, w .ready .inside), (take-ready (w .ready) k, (c .before .before .before .before .before .before .before .before .before .before .pre .1 .1), omega (arith, (c .before .before .before .before .before .before .before .before .before .before .pre .1 .2), w .nodes, k .nodes), (c .before .before .before .before .before .before .before .before .before .before .pre .1 .3)))
 
 read-more-returns-2 : (t : ℕ) → read-more-lts.Need-returns-2 (read-more-env t) (read-more-at t) read-more.Post
 read-more-returns-2 t c = let w = (onward-taken (c .before .before .before .before .before .before .before .before .before .before .before .pre .1 .0) (c .before .before .before .before .before .before .before .before .before .take .ensures ((c .before .before .before .before .before .before .before .before .before .before .before .pre .1 .0) .inside)) (c .before .before .before .before .if2 .taken) (omega arith)) in let k = (c .before .take2 .ensures ((onward-taken (c .before .before .before .before .before .before .before .before .before .before .before .pre .1 .0) (c .before .before .before .before .before .before .before .before .before .take .ensures ((c .before .before .before .before .before .before .before .before .before .before .before .pre .1 .0) .inside)) (c .before .before .before .before .if2 .taken) (omega arith)) .ready .inside)) in (sound-on (c .read-label .ensures .0) (omega (arith, w .further, k .from)) (omega (arith, w .nodes, k .nodes)), more-some ((c .before .before .before .before .before .before .before .before .before .before .before .pre .1 .0) .short) (c .before .before .before .before .before .before .before .before .before .take .ensures ((c .before .before .before .before .before .before .before .before .before .before .before .pre .1 .0) .inside)) (c .before .before .before .before .if2 .taken) k (c .read-label .ensures .1))
@@ -555,14 +549,13 @@ pub +read-choice+read-item+read-items+read-label+read-message+read-more+read-res
     (read-choice-enum-known-r2 t)
     (read-choice-enum-told-2 t)
     (read-choice-returns-2 t)
+    (read-choice-cast-number t)
     (read-choice-take-requires t)
     (read-choice-add-read-label t)
-    (read-choice-cast-read-label t)
     (read-choice-read-label-requires t)
     (read-choice-enum-known-r3 t)
     (read-choice-enum-told-3 t)
     (read-choice-returns-3 t)
-    (read-choice-cast-store t)
     (read-choice-store-requires t)
     (read-choice-returns-4 t))
     (λ t. read-item-lts.spec (
@@ -671,8 +664,8 @@ pub +read-choice+read-item+read-items+read-label+read-message+read-more+read-res
     (read-message-enum-known-r2 t)
     (read-message-enum-told-2 t)
     (read-message-returns-2 t)
-    (read-message-add-read-items t)
-    (read-message-cast-read-items t)
+    (read-message-cast-number t)
+    (read-message-add-inner t)
     (read-message-read-items-requires t)
     (read-message-enum-known-r3 t)
     (read-message-enum-told-3 t)
@@ -686,7 +679,6 @@ pub +read-choice+read-item+read-items+read-label+read-message+read-more+read-res
     (read-message-enum-known-r5 t)
     (read-message-enum-told-5 t)
     (read-message-returns-5 t)
-    (read-message-cast-store t)
     (read-message-store-requires t)
     (read-message-returns-6 t))
     (λ t. read-more-lts.spec (

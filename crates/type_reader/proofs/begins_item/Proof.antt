@@ -2,7 +2,6 @@
 -- Assumes nothing.
 use borrow.Author.Tests.{lt-ltb, le-ltb}
 use mathlib.Core.Path.{refl}
-use native.Mathlib.Omega.{arith}
 use Rattle.type_reader.specs.Leaves.{begins-item}
 use borrow.Author.Needs.{needs}
 use Rattle.type_reader.proofs.begins_item.Statement.{statement}

@@ -2,7 +2,6 @@
 -- Assumes nothing.
 use borrow.Author.Tests.{le-leb, lt-leb}
 use mathlib.Core.Path.{refl}
-use native.Mathlib.Omega.{arith}
 use Rattle.type_reader.specs.Leaves.{is-sort}
 use Rattle.type_reader.proofs.is_sort.Statement.{statement}
 use Rattle.type_reader.proofs.is_sort.Tie as tie

@@ -1,14 +1,17 @@
 -- `type_reader::use_name` meets its contract.
 -- Assumes nothing.
-use mathlib.Core.Path.{refl}
-use native.Mathlib.Omega.{arith}
+use borrow.Author.Tests.{ltb-true, ltb-false}
+use mathlib.Core.Path.{refl, sym, _∙_}
 use Rattle.type_reader.specs.Leaves.{used-name, long-name}
 use borrow.Author.Needs.{needs}
 use Rattle.type_reader.proofs.use_name.Statement.{statement}
 use Rattle.type_reader.proofs.use_name.Tie as tie
 
+too-long-requires : tie.Need-too-long-requires
+too-long-requires c κs = search needs
+
 returns : tie.Need-returns
-returns c = long-name (c .if1 .taken)
+returns c = long-name (ltb-true _ _ (sym (c .before .too-long .ensures) ∙ c .if1 .taken))
 
 cast-uses : tie.Need-cast-uses
 cast-uses c = search needs
@@ -29,9 +32,18 @@ add-t10 : tie.Need-add-t10
 add-t10 c = search needs
 
 returns-2 : tie.Need-returns-2
-returns-2 c = used-name (omega arith) refl
+returns-2 c = used-name (ltb-false _ _ (sym (c .before .before .before .too-long .ensures) ∙ c .before .before .if1 .left)) refl
 
 pub use-name-spec : {M : Type 1} → statement M
 use-name-spec =
     tie.close
-    (tie.spec returns cast-uses mul-uses element-write-uses add-t7 cast-t6 add-t10 returns-2)
+    (tie.spec
+    too-long-requires
+    returns
+    cast-uses
+    mul-uses
+    element-write-uses
+    add-t7
+    cast-t6
+    add-t10
+    returns-2)

@@ -1,8 +1,6 @@
 -- `reader::definitions::read_definition` meets its contract.
 -- Assumes nothing.
 use native.Mathlib.Omega.{arith}
-use Rattle.flat.proofs.Rows.{row-length}
-use mathlib.Core.Path.{sym, _∙_}
 use Rattle.type_reader.proofs.Safe.{take-ready, signed-onward, sound-past, label-ready, label-inside, label-places}
 use Rattle.reader.proofs.Naming.{fresh-name}
 use Rattle.reader.proofs.Defined.{definition-told₁, definition-told₂, definition-told₃, definition-told₄}
