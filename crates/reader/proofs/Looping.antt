@@ -32,7 +32,7 @@ use Rattle.type_reader.specs.declared.Got.{Got}
 use Rattle.type_reader.specs.declared.Got.the-variants.{Past, Refused}
 use Rattle.reader.specs.Defining.{rows-room, stored-definition, Starts, at-first, further, DefinitionGot, DefinitionRead, TextGot, Sound}
 use Rattle.reader.specs.Defining as defining
-use Rattle.reader.proofs.Texts.{Whole, Open, open-first, open-next, closed-next}
+use Rattle.reader.proofs.Texts.{Whole, Open, all-behind, open-first, open-next, closed-next}
 
 -- n definitions were read, c is the cursor behind them and t the token that it takes
 pub record Looping (s a b d : List ℕ) (c : Cursor) (n : ℕ) (t : Taken) : Type 0 where
@@ -66,10 +66,6 @@ nothing-left (u ∷ k) h e = absurd (no-end (symbol u) (sym (h .is) ∙ e))
 starts-further : {s : List ℕ} {t : Taken} (ts : List Token) → Ahead s t ts → (t .kind ≡ end-kind → ⊥) → Starts [] ts
 starts-further [] h n = absurd (n (h .is))
 starts-further (u ∷ k) h n = further
-
-all-behind : (s : List ℕ) → tokens-behind s 0 ≡ tokens s
-unfolding tokens-behind tokens
-all-behind s = refl
 
 abbrev origin : Cursor
 origin = record { at = 0; nodes = 0; uses = 0 }

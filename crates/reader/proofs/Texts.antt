@@ -39,7 +39,7 @@ pub record Open (s a b d : List ℕ) (n : ℕ) (c : Cursor) : Type 0 where
       → StoredText a′ b′ x (c .nodes) (c .uses)
       → Whole s a′ b′ d′ (with-rest x) (n + definition-count x) (behind-text x (c .nodes)) (used-text x (c .uses))
 
-all-behind : (s : List ℕ) → tokens-behind s 0 ≡ tokens s
+pub all-behind : (s : List ℕ) → tokens-behind s 0 ≡ tokens s
 unfolding tokens-behind tokens
 all-behind s = refl
 

@@ -20,12 +20,11 @@ use Rattle.rules.proofs.Machine.{Stack}
 use Rattle.rules.proofs.Reached.{Reached, Refuses}
 use Rattle.rules.proofs.OneToken.{counted}
 use Rattle.rules.proofs.TokensBehind.{tokens-behind}
-use Rattle.cursor.specs.Takes.{Takes}
 use Rattle.cursor.specs.declared.Cursor.{Cursor}
 use Rattle.cursor.specs.declared.Taken.{Taken}
 use Rattle.flat.specs.Flat.{room, list-from, choice-number, raw-labels, labels-long, Holds, Stored, StoredLabels}
 use Rattle.type_reader.specs.Leaves.{Begun, behind-node, Opened, stored-head}
-use Rattle.type_reader.specs.Answers.{PastType, TypeRead, PastLabels, LabelsGot, LabelRead, choice-byte}
+use Rattle.type_reader.specs.Answers.{PastType, TypeRead, PastLabels, LabelsGot, LabelsRead, choice-byte}
 use Rattle.type_reader.specs.Answers as answers
 use Rattle.type_reader.specs.declared.Got.{Got}
 use Rattle.type_reader.specs.declared.Got.the-variants.{Past, Refused}
@@ -90,38 +89,37 @@ module _ {s : List ℕ} (l : length s ≤ text-most) (d : Way) {t : Taken} (e : 
     pub choice-unopened : {a b a′ b′ : List ℕ} {m p : ℕ} → Opened s (behind-node (t .next)) (code "{") deep (Refused m p) → TypeRead s a b a′ b′ t deep (Refused m p)
     choice-unopened h = no-bracket l (choice-shape d) e q h
 
-    module _ {v₂ : ℕ} {c₂ : Cursor} {t₃ : Taken} (o : Opened s (behind-node (t .next)) (code "{") deep (Past v₂ c₂)) (k : Takes s c₂ t₃) where
+    module _ {v₂ : ℕ} {c₂ : Cursor} (o : Opened s (behind-node (t .next)) (code "{") deep (Past v₂ c₂)) where
       -- behind the brace
       behind-brace :
           (z : Standing s t deep)
-          → Reached s (tokens-behind s (c₂ .at)) (expect.a-label ∷ z .K) (counted a-label (t₃ .next .nodes) (z .ns) ([] ∷ inside z))
+          → Reached s (tokens-behind s (c₂ .at)) (expect.a-label ∷ z .K) (counted a-label (c₂ .nodes) (z .ns) ([] ∷ inside z))
           × (symbols (tokens-behind s (t .next .at)) ≡ one-byte (code "{") ∷ symbols (tokens-behind s (c₂ .at)))
       behind-brace z =
           let r = behind-bracket l (choice-shape d) e q o z in
-          (rw (k .nodes) (rw labels-next at r .0), r .1)
+          (rw labels-next at r .0, r .1)
 
       labels-told :
-          {a b a₁ b₁ : List ℕ} {node : ℕ} {r : Got} (z : Standing s t deep) → LabelRead s a b a₁ b₁ t₃ (deep + 1) node 0 r
-          → LabelsGot s a b a₁ b₁ (tokens-behind s (c₂ .at)) (z .K) (z .ns) (inside z) (t₃ .next .nodes) (t₃ .next .uses) node 0 r
+          {a b a₁ b₁ : List ℕ} {node : ℕ} {r : Got} (z : Standing s t deep) → LabelsRead s a b a₁ b₁ c₂ (deep + 1) node r
+          → LabelsGot s a b a₁ b₁ (tokens-behind s (c₂ .at)) (z .K) (z .ns) (inside z) (c₂ .nodes) (c₂ .uses) node 0 r
       labels-told z f =
-          f .told (tokens-behind s (c₂ .at)) (z .K) (z .ns) (inside z) (k .ahead) (behind-brace z .0) (omega (arith, inside-deep z))
+          f .told (z .K) (z .ns) (inside z) (behind-brace z .0) (omega (arith, inside-deep z))
 
       pub choice-labels-refused :
-          {a b a₁ b₁ : List ℕ} {node m p : ℕ} → LabelRead s a b a₁ b₁ t₃ (deep + 1) node 0 (Refused m p) → TypeRead s a b a₁ b₁ t deep (Refused m p)
+          {a b a₁ b₁ : List ℕ} {node m p : ℕ} → LabelsRead s a b a₁ b₁ c₂ (deep + 1) node (Refused m p) → TypeRead s a b a₁ b₁ t deep (Refused m p)
       choice-labels-refused f = type-read (λ z. answers.refused (refused-labels (labels-told z f)))
 
       done-choice :
           {a b a₁ b₁ : List ℕ} {node n : ℕ} {c₃ : Cursor} → length a₁ ≡ text-most → node ≡ t .next .nodes → (z : Standing s t deep)
-          → (i : LabelsRight s a b a₁ b₁ (tokens-behind s (c₂ .at)) (z .K) (z .ns) (inside z) (t₃ .next .nodes) (t₃ .next .uses) node 0 n c₃)
+          → (i : LabelsRight s a b a₁ b₁ (tokens-behind s (c₂ .at)) (z .K) (z .ns) (inside z) (c₂ .nodes) (c₂ .uses) node 0 n c₃)
           → (a₂ : List ℕ) → a₂ ≡ stored-head a₁ node (choice-number d) n 0
           → PastType s a b a₂ b₁ t (z .ts) (z .K) (z .nx) (z .ns) (z .bs) (choice d (i .labels)) node c₃
       done-choice {a} {b} {a₁} {b₁} {node} {n} m nd z i a₂ st =
           let k₀ : ℕ = t .next .nodes in
           let u₀ : ℕ = t .next .uses in
           let ls : Labels = i .labels in
-          let n₃ : t₃ .next .nodes ≡ suc k₀ = k .nodes ∙ opened-counts o .0 ∙ add-one k₀ in
-          let u₃ : t₃ .next .uses ≡ u₀ = k .uses ∙ opened-counts o .1 in
-          let r = rw (n₃, u₃) at i .right in
+          let n₂ : c₂ .nodes ≡ suc k₀ = opened-counts o .0 ∙ add-one k₀ in
+          let r = rw (n₂, opened-counts o .1) at i .right in
           record {
             written = cc (took-symbols (sign-took l (choice-shape d) e z), behind-brace z .1, i .wrote, choice-signs d);
             reached = r .reached;
@@ -138,7 +136,7 @@ module _ {s : List ℕ} (l : length s ≤ text-most) (d : Way) {t : Taken} (e : 
 
       pub choice-done :
           {a b a₁ b₁ a₂ : List ℕ} {node n : ℕ} {c₃ : Cursor} → length a₁ ≡ text-most → node ≡ t .next .nodes
-          → LabelRead s a b a₁ b₁ t₃ (deep + 1) node 0 (Past n c₃) → a₂ ≡ stored-head a₁ node (choice-number d) n 0
+          → LabelsRead s a b a₁ b₁ c₂ (deep + 1) node (Past n c₃) → a₂ ≡ stored-head a₁ node (choice-number d) n 0
           → TypeRead s a b a₂ b₁ t deep (Past node c₃)
       choice-done {a₂} m nd f st =
           type-read (λ z. let i = labels-right (labels-told z f) in answers.past (choice d (i .labels)) (done-choice m nd z i a₂ st))

@@ -15,5 +15,6 @@ pub mod Lists
 pub mod Items
 pub mod LabelSteps
 pub mod Labelled
+pub mod LabelTurns
 pub mod Safe
 pub mod Told

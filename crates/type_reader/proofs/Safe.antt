@@ -170,12 +170,16 @@ pub sound-stored :
 sound-stored {a = a} {node = node} kind n link {c} f m few r st =
     past {v = node} {c = c} f m (omega arith) (ready-areas r (rw st (head-length a node kind n link)) refl)
 
--- the areas after a number, or a label's row, is written
+-- the areas after a number, and a label's row, is written
 pub ready-set : {s a b : List ℕ} {c : Cursor} (i v : ℕ) → Ready s a b c → Ready s (set a i v) b c
 ready-set {a = a} i v r = ready-areas r (length-set a i v) refl
 
-pub ready-row : {s a a′ b : List ℕ} {c : Cursor} (node n : ℕ) (t : Taken) (link : ℕ) → Ready s a b c → a′ ≡ stored-label a node n t link → Ready s a′ b c
-ready-row {a = a} node n t link r st = ready-areas r (rw st (row-length a (node * room + list-from + n * row) (t .at) (t .len) link)) refl
+pub sound-row :
+    {s a a′ b : List ℕ} {from nodes : ℕ} (node n : ℕ) (t : Taken) (link : ℕ) {c : Cursor} → from < c .at → nodes ≤ c .nodes → Ready s a b c
+    → a′ ≡ stored-label a node n t link → Sound s a′ b from nodes (Past 0 c)
+sound-row {a = a} node n t link {c} f m r st =
+    past {v = 0} {c = c} f m (omega arith)
+    (ready-areas r (rw st (row-length a (node * room + list-from + n * row) (t .at) (t .len) link)) refl)
 
 -- the cursor behind a label is the one behind its token
 pub label-ready : {s a b : List ℕ} {t : Taken} {c : Cursor} → TokenReady s a b t → c ≡ t .next → Ready s a b c

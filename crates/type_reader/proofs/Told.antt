@@ -15,7 +15,7 @@ use Rattle.cursor.specs.declared.Cursor.{Cursor}
 use Rattle.cursor.specs.declared.Taken.{Taken}
 use Rattle.flat.specs.Flat.{room, list-from, a-session, message-number, choice-number}
 use Rattle.type_reader.specs.Leaves.{Signed, Opened, Begun, ItemBegun, Labelled, behind-node, stored-head, stored-label}
-use Rattle.type_reader.specs.Answers.{TokenReady, TypeRead, ItemsRead, ItemRead, RestRead, LabelRead, MoreRead, message-byte, choice-byte}
+use Rattle.type_reader.specs.Answers.{TokenReady, TypeRead, ItemsRead, ItemRead, RestRead, LabelRead, LabelsRead, message-byte, choice-byte}
 use Rattle.type_reader.specs.declared.Got.{Got}
 use Rattle.type_reader.specs.declared.Got.the-variants.{Past, Refused}
 use Rattle.type_reader.proofs.Messages.{message-full, message-unopened, message-items-refused, message-semicolon-refused, message-type-refused, message-done}
@@ -89,14 +89,14 @@ module _ {s a b : List ℕ} {t : Taken} (deep : ℕ) (r : TokenReady s a b t) {r
               message-told₆ e m st d k q x y =
                   message-done short d k few (opens q) (items d x) semicolon k₅ m (begins .number) (rw e at g₅) (rw y at st)
 
-        module _ {t₃ : Taken} (k₃ : Takes s c₂ t₃) {a₁ b₁ : List ℕ} {r₃ : Got} (g₃ : LabelRead s a b a₁ b₁ t₃ (deep + 1) node 0 r₃) where
+        module _ {a₁ b₁ : List ℕ} {r₃ : Got} (g₃ : LabelsRead s a b a₁ b₁ c₂ (deep + 1) node r₃) where
           pub choice-told₃ : {n p : ℕ} → r₃ ≡ Refused n p → (d : Way) → t .kind ≡ choice-byte d → o ≡ code "{" → TypeRead s a b a₁ b₁ t deep r₃
-          choice-told₃ e d k q = rw e (choice-labels-refused short d k few (opens q) k₃ (rw e at g₃))
+          choice-told₃ e d k q = rw e (choice-labels-refused short d k few (opens q) (rw e at g₃))
 
           pub choice-told₄ :
               {n : ℕ} {c₃ : Cursor} → r₃ ≡ Past n c₃ → length a₁ ≡ text-most → {a₂ : List ℕ} {kind : ℕ} → a₂ ≡ stored-head a₁ node kind n 0 → (d : Way)
               → t .kind ≡ choice-byte d → o ≡ code "{" → kind ≡ choice-number d → TypeRead s a b a₂ b₁ t deep (Past node c₃)
-          choice-told₄ e m st d k q y = choice-done short d k few (opens q) k₃ m (begins .number) (rw e at g₃) (rw y at st)
+          choice-told₄ e m st d k q y = choice-done short d k few (opens q) m (begins .number) (rw e at g₃) (rw y at st)
 
 -- an item
 module _ {s a b : List ℕ} {t : Taken} (deep node n : ℕ) (r : TokenReady s a b t) {r₁ : Got} (g₁ : ItemBegun t n r₁) where
@@ -166,7 +166,6 @@ module _ {s a b : List ℕ} {t : Taken} (deep node n : ℕ) (r : TokenReady s a 
 
         pub label-told₄ :
             {link : ℕ} {c₃ : Cursor} → r₃ ≡ Past link c₃ → node < t .next .nodes → c₃ .nodes ≤ text-nodes-most → length a₁ ≡ text-most
-            → {a₂ a₃ b₃ : List ℕ} → a₂ ≡ stored-label a₁ node n t link → {r₄ : Got} → MoreRead s a₂ b₁ a₃ b₃ c₃ deep node (n + 1) r₄
-            → LabelRead s a b a₃ b₃ t deep node n r₄
-        label-told₄ e i few long {a₃} {b₃} st g =
-            label-done (r .ready .short) a b deep node n (label-new .0) colon k₃ a₃ b₃ i few long (rw e at g₃) st g
+            → {a₂ : List ℕ} → a₂ ≡ stored-label a₁ node n t link → {w : ℕ} → LabelRead s a b a₂ b₁ t deep node n (Past w c₃)
+        label-told₄ e i few long {a₂} st =
+            label-done (r .ready .short) a b deep node n (label-new .0) colon k₃ i few long a₂ st (rw e at g₃)

@@ -7,8 +7,8 @@ use mathlib.Core.Path.{_≡_}
 use Prim.Native.Char.{code}
 use Prim.Native.Nat.{ℕ, suc, _+_, _*_, _<_, _≤_}
 use lib.ListN.{length}
-use Rattle.rules.specs.Tokens.{Token, Symbol, symbol, symbols}
-use Rattle.rules.specs.Notation.{Way, into, out, Ty, Items, Labels, sign, parted, write-type, write-items, write-labels}
+use Rattle.rules.specs.Tokens.{Token, Symbol, word, symbol, symbols}
+use Rattle.rules.specs.Notation.{Way, into, out, Ty, Items, Labels, label, sign, parted, write-type, write-items, write-labels}
 use Rattle.rules.specs.Numbers.{text-most, text-nodes-most, labels-most, items-most}
 use Rattle.rules.specs.Numbering.{behind, behind-items, behind-labels}
 use Rattle.rules.specs.Refusals.{Begins, a-label, an-item, nothing-new, innermost, entries-after}
@@ -20,7 +20,7 @@ use Rattle.rules.proofs.TokensBehind.{tokens-behind}
 use Rattle.cursor.specs.Takes.{Ahead, end-kind}
 use Rattle.cursor.specs.declared.Cursor.{Cursor}
 use Rattle.cursor.specs.declared.Taken.{Taken}
-use Rattle.flat.specs.Flat.{room, list-from, row, a-use, used, used-items, used-labels, raw, raw-items, raw-labels, items-long, labels-long, Holds, Stored, StoredItems, StoredLabels, Kept, KeptBut, words-of}
+use Rattle.flat.specs.Flat.{room, list-from, row, a-use, used, used-items, used-labels, raw, raw-row, raw-items, raw-labels, items-long, labels-long, Holds, Stored, StoredItems, StoredLabels, Kept, KeptBut, words-of}
 use Rattle.type_reader.specs.declared.Got.{Got}
 use Rattle.type_reader.specs.declared.Got.the-variants.{Past, Refused}
 
@@ -137,30 +137,32 @@ module _ (s a b a′ b′ : List ℕ) where
         {v : ℕ} {c : Cursor} (ls : Labels) → symbols ts ≡ write-labels ls (symbols (tokens-behind s (c .at))) → v ≡ n + labels-long ls
         → v ≤ labels-most → PastLabels K ns bs k u node n ls c → LabelsGot ts K ns bs k u node n (Past v c)
 
+  -- the labels of the node, behind its opening brace
+  pub record LabelsRead (c : Cursor) (deep node : ℕ) (r : Got) : Type 0 where
+    pub told :
+        (K : Stack) (ns : List (List ℕ)) (bs : List (List (List ℕ)))
+        → Reached s (tokens-behind s (c .at)) (expect.a-label ∷ K) (counted a-label (c .nodes) ns ([] ∷ bs)) → suc (length bs) ≡ deep
+        → LabelsGot (tokens-behind s (c .at)) K ns bs (c .nodes) (c .uses) node 0 r
+
+  -- one label, which is w and has the type x: its row stands behind n others, and those behind it may follow
+  abbrev pub PastLabel : Stack → List (List ℕ) → List (List (List ℕ)) → ℕ → ℕ → ℕ → ℕ → Token → Ty → Cursor → Type 0
+  PastLabel K ns bs k u node n w x c =
+      PastList (expect.more-labels ∷ K) ns (words-of s a′ (node * room + list-from) (n + 1) ∷ bs) k u (behind x k) (used x u)
+      (node * room + list-from + n * row) (node * room + room) (raw-row w x k u []) (Stored a′ b′ x k u) c
+
+  pub data LabelGot (ts : List Token) (K : Stack) (ns : List (List ℕ)) (bs : List (List (List ℕ))) (k u node n : ℕ) : Got → Type 0 where
+    refused : {m p : ℕ} → Refuses s m p → LabelGot ts K ns bs k u node n (Refused m p)
+    past :
+        {v : ℕ} {c : Cursor} (w : Token) (x : Ty) → symbols ts ≡ word w ∷ sign ":" ∷ write-type x (symbols (tokens-behind s (c .at)))
+        → PastLabel K ns bs k u node n w x c → LabelGot ts K ns bs k u node n (Past v c)
+
   pub record LabelRead (t : Taken) (deep node n : ℕ) (r : Got) : Type 0 where
+    pub few : {v : ℕ} {c : Cursor} → r ≡ Past v c → n < labels-most
     pub told :
         (ts : List Token) (K : Stack) (ns : List (List ℕ)) (bs : List (List (List ℕ)))
         → Ahead s t ts
         → Reached s ts (expect.a-label ∷ K) (counted a-label (t .next .nodes) ns (words-of s a (node * room + list-from) n ∷ bs))
-        → suc (length bs) ≡ deep → LabelsGot ts K ns bs (t .next .nodes) (t .next .uses) node n r
-
-  -- behind a label's type: the choice is closed, or further labels follow
-  pub data MoreGot (ts : List Token) (K : Stack) (ns : List (List ℕ)) (bs : List (List (List ℕ))) (k u node n : ℕ) : Got → Type 0 where
-    refused : {m p : ℕ} → Refuses s m p → MoreGot ts K ns bs k u node n (Refused m p)
-    closed :
-        {c : Cursor} → symbols ts ≡ sign "}" ∷ symbols (tokens-behind s (c .at))
-        → PastList K ns bs k u k u (node * room + list-from + n * row) (node * room + room) [] (Unit {0}) c
-        → MoreGot ts K ns bs k u node n (Past n c)
-    past :
-        {v : ℕ} {c : Cursor} (ls : Labels) → symbols ts ≡ sign "|" ∷ write-labels ls (symbols (tokens-behind s (c .at)))
-        → v ≡ n + labels-long ls → v ≤ labels-most → PastLabels K ns bs k u node n ls c → MoreGot ts K ns bs k u node n (Past v c)
-
-  pub record MoreRead (c : Cursor) (deep node n : ℕ) (r : Got) : Type 0 where
-    pub told :
-        (K : Stack) (ns : List (List ℕ)) (bs : List (List (List ℕ)))
-        → Reached s (tokens-behind s (c .at)) (expect.more-labels ∷ K)
-        (counted nothing-new (c .nodes) ns (words-of s a (node * room + list-from) n ∷ bs))
-        → suc (length bs) ≡ deep → MoreGot (tokens-behind s (c .at)) K ns bs (c .nodes) (c .uses) node n r
+        → suc (length bs) ≡ deep → LabelGot ts K ns bs (t .next .nodes) (t .next .uses) node n r
 
 -- the byte of a message's sign, and of a choice's
 abbrev pub message-byte : Way → ℕ

@@ -34,7 +34,7 @@ ghost use Rattle.rules.proofs.Machine.{open-byte, close-byte};
 ghost use Rattle.cursor.specs.Takes.{reserved-kind};
 ghost use Rattle.flat.specs.Flat.{room, list-from, message-number, choice-number};
 ghost use Rattle.type_reader.specs.Leaves.{Signed, Opened, Begun, Used, Ended, begins-type, begins-item, is-sort, ItemBegun, Labelled, stored-head, stored-label};
-ghost use Rattle.type_reader.specs.Answers.{Ready, TokenReady, Sound, TypeRead, ItemsRead, ItemRead, RestRead, LabelRead, MoreRead, message-byte, choice-byte};
+ghost use Rattle.type_reader.specs.Answers.{Ready, TokenReady, Sound, TypeRead, ItemsRead, ItemRead, RestRead, LabelRead, LabelsRead, message-byte, choice-byte};
 
 // "64 nodes in a text", "16 brackets `(`, `[`, `{` open at once"
 pub const TEXT_NODES_MOST: usize = 64;
@@ -536,7 +536,7 @@ fn read_choice(
         return r2;
     };
     let number = node as usize;
-    let r3 = read_label(s, nodes, uses, c2.take(s), deep + 1, number, 0);
+    let r3 = read_labels(s, nodes, uses, c2, deep + 1, number);
     let Got::Past { value: n, next: c3 } = r3 else {
         return r3;
     };
@@ -547,7 +547,47 @@ fn read_choice(
     }
 }
 
-// The label t, behind n others, its type, and those behind it.
+// The labels of a node, behind its opening brace; the value is their count. They are read in a loop, so that only types inside types take
+// stack.
+fn read_labels(
+    s: &[u8],
+    nodes: &mut [u16; TEXT_MOST],
+    uses: &mut [u16; TEXT_MOST],
+    c: Cursor,
+    deep: usize,
+    node: usize,
+) -> Got
+    requires { ⌜ Ready (now s) (now nodes) (now uses) c × (deep ≤ brackets-most) × (node < c .nodes) ⌝ }
+    ensures { λ r. ⌜ Sound (now (s .entry)) (now (nodes .exit)) (now (uses .exit)) (c .at) (c .nodes) r ⌝ }
+    ensures { λ r. ⌜ LabelsRead (now (s .entry)) (now (nodes .entry)) (now (uses .entry)) (now (nodes .exit)) (now (uses .exit)) c deep node r ⌝ }
+{
+    let mut from = c;
+    let mut n = 0;
+    loop {
+        let r1 = read_label(s, nodes, uses, from.take(s), deep, node, n);
+        let Got::Past { value: _, next: c1 } = r1 else {
+            return r1;
+        };
+        n += 1;
+        let t = c1.take(s);
+        let next = t.next;
+        if t.kind == CHOICE_CLOSES {
+            return Got::Past {
+                value: n as u16,
+                next,
+            };
+        }
+        if t.kind != BAR {
+            return Got::Refused {
+                number: UNEXPECTED,
+                place: t.at,
+            };
+        }
+        from = next;
+    }
+}
+
+// The label t, behind n others of its node, and its type.
 fn read_label(
     s: &[u8],
     nodes: &mut [u16; TEXT_MOST],
@@ -578,36 +618,5 @@ fn read_label(
         return r3;
     };
     store_label(nodes, node, n, t, link);
-    read_more(s, nodes, uses, c3, deep, node, n + 1)
-}
-
-// Behind n labels and the last one's type: `|` and a further label, or `}`.
-fn read_more(
-    s: &[u8],
-    nodes: &mut [u16; TEXT_MOST],
-    uses: &mut [u16; TEXT_MOST],
-    c: Cursor,
-    deep: usize,
-    node: usize,
-    n: usize,
-) -> Got
-    requires { ⌜ Ready (now s) (now nodes) (now uses) c × (deep ≤ brackets-most) × (node < c .nodes) × (n ≤ labels-most) ⌝ }
-    ensures { λ r. ⌜ Sound (now (s .entry)) (now (nodes .exit)) (now (uses .exit)) (c .at) (c .nodes) r ⌝ }
-    ensures { λ r. ⌜ MoreRead (now (s .entry)) (now (nodes .entry)) (now (uses .entry)) (now (nodes .exit)) (now (uses .exit)) c deep node n r ⌝ }
-{
-    let t = c.take(s);
-    let next = t.next;
-    if t.kind == CHOICE_CLOSES {
-        return Got::Past {
-            value: n as u16,
-            next,
-        };
-    }
-    if t.kind == BAR {
-        return read_label(s, nodes, uses, next.take(s), deep, node, n);
-    }
-    Got::Refused {
-        number: UNEXPECTED,
-        place: t.at,
-    }
+    Got::Past { value: 0, next: c3 }
 }

@@ -7,40 +7,40 @@ use native.Mathlib.Omega.{arith}
 use lib.ListN.{length}
 use Rattle.rules.specs.Notation.{into, out}
 use Rattle.cursor.specs.declared.Cursor.{Cursor}
-use Rattle.flat.specs.Flat.{room, list-from}
 use Rattle.type_reader.specs.Answers.{refused}
 use Rattle.type_reader.proofs.Begins.{type-name, type-end, type-none}
 use Rattle.type_reader.proofs.Items.{items-none, items-some, rest-none, rest-some, rest-other}
-use Rattle.type_reader.proofs.Labelled.{fresh-label, more-none, more-some, more-other}
-use Rattle.type_reader.proofs.Safe.{ready-set, ready-row, take-ready, token-long, onward-taken, signed-onward, opened-onward, begun-ready, sound-past, sound-refused, sound-on, sound-used, sound-ended, sound-step, sound-stored, item-is, item-few, item-known, label-ready, label-inside, label-places}
+use Rattle.type_reader.proofs.Labelled.{fresh-label}
+use Rattle.type_reader.proofs.LabelTurns.{Turning, turn-first, turn-refused, turn-closed, turn-other, turn-next}
+use Rattle.type_reader.proofs.Safe.{ready-set, take-ready, token-long, onward-taken, signed-onward, opened-onward, begun-ready, sound-past, sound-refused, sound-on, sound-used, sound-ended, sound-step, sound-stored, sound-row, item-is, item-few, item-known, label-ready, label-inside, label-places}
 use Rattle.type_reader.proofs.Told.{message-told₁, message-told₂, message-told₃, message-told₄, message-told₅, message-told₆, choice-told₁, choice-told₂, choice-told₃, choice-told₄, item-told₁, item-told₂, item-told₃, item-told₄, label-told₁, label-told₂, label-told₃, label-told₄}
 use Prim.Native.Nat.{ℕ, _<_, _+_, _-_, _*_}
 use borrow.Fn.Kinds.{In}
 use borrow.Fn.PlainCycle.{Measures, is, falls, and}
 use Rattle.type_reader.proofs.read_choice.Reads as read-choice
 use Rattle.type_reader.proofs.read_choice.Kinds as read-choice-kinds
-use Rattle.type_reader.proofs.+read_choice+read_item+read_items+read_label+read_message+read_more+read_rest+read_type.Lts-read_choice as read-choice-lts
+use Rattle.type_reader.proofs.+read_choice+read_item+read_items+read_label+read_labels+read_message+read_rest+read_type.Lts-read_choice as read-choice-lts
 use Rattle.type_reader.proofs.read_item.Reads as read-item
 use Rattle.type_reader.proofs.read_item.Kinds as read-item-kinds
-use Rattle.type_reader.proofs.+read_choice+read_item+read_items+read_label+read_message+read_more+read_rest+read_type.Lts-read_item as read-item-lts
+use Rattle.type_reader.proofs.+read_choice+read_item+read_items+read_label+read_labels+read_message+read_rest+read_type.Lts-read_item as read-item-lts
 use Rattle.type_reader.proofs.read_items.Reads as read-items
 use Rattle.type_reader.proofs.read_items.Kinds as read-items-kinds
-use Rattle.type_reader.proofs.+read_choice+read_item+read_items+read_label+read_message+read_more+read_rest+read_type.Lts-read_items as read-items-lts
+use Rattle.type_reader.proofs.+read_choice+read_item+read_items+read_label+read_labels+read_message+read_rest+read_type.Lts-read_items as read-items-lts
 use Rattle.type_reader.proofs.read_label.Reads as read-label
 use Rattle.type_reader.proofs.read_label.Kinds as read-label-kinds
-use Rattle.type_reader.proofs.+read_choice+read_item+read_items+read_label+read_message+read_more+read_rest+read_type.Lts-read_label as read-label-lts
+use Rattle.type_reader.proofs.+read_choice+read_item+read_items+read_label+read_labels+read_message+read_rest+read_type.Lts-read_label as read-label-lts
+use Rattle.type_reader.proofs.read_labels.Reads as read-labels
+use Rattle.type_reader.proofs.read_labels.Kinds as read-labels-kinds
+use Rattle.type_reader.proofs.+read_choice+read_item+read_items+read_label+read_labels+read_message+read_rest+read_type.Lts-read_labels as read-labels-lts
 use Rattle.type_reader.proofs.read_message.Reads as read-message
 use Rattle.type_reader.proofs.read_message.Kinds as read-message-kinds
-use Rattle.type_reader.proofs.+read_choice+read_item+read_items+read_label+read_message+read_more+read_rest+read_type.Lts-read_message as read-message-lts
-use Rattle.type_reader.proofs.read_more.Reads as read-more
-use Rattle.type_reader.proofs.read_more.Kinds as read-more-kinds
-use Rattle.type_reader.proofs.+read_choice+read_item+read_items+read_label+read_message+read_more+read_rest+read_type.Lts-read_more as read-more-lts
+use Rattle.type_reader.proofs.+read_choice+read_item+read_items+read_label+read_labels+read_message+read_rest+read_type.Lts-read_message as read-message-lts
 use Rattle.type_reader.proofs.read_rest.Reads as read-rest
 use Rattle.type_reader.proofs.read_rest.Kinds as read-rest-kinds
-use Rattle.type_reader.proofs.+read_choice+read_item+read_items+read_label+read_message+read_more+read_rest+read_type.Lts-read_rest as read-rest-lts
+use Rattle.type_reader.proofs.+read_choice+read_item+read_items+read_label+read_labels+read_message+read_rest+read_type.Lts-read_rest as read-rest-lts
 use Rattle.type_reader.proofs.read_type.Reads as read-type
 use Rattle.type_reader.proofs.read_type.Kinds as read-type-kinds
-use Rattle.type_reader.proofs.+read_choice+read_item+read_items+read_label+read_message+read_more+read_rest+read_type.Lts-read_type as read-type-lts
+use Rattle.type_reader.proofs.+read_choice+read_item+read_items+read_label+read_labels+read_message+read_rest+read_type.Lts-read_type as read-type-lts
 use Rattle.cursor.proofs.Cursor.take.Reads as take-reads
 use Rattle.type_reader.proofs.begin_node.Reads as begin-node-reads
 use Rattle.type_reader.proofs.bracket.Reads as bracket-reads
@@ -51,10 +51,10 @@ use Rattle.type_reader.proofs.sign.Reads as sign-reads
 use Rattle.type_reader.proofs.store.Reads as store-reads
 use Rattle.type_reader.proofs.store_label.Reads as store-label-reads
 use Rattle.type_reader.proofs.use_name.Reads as use-name-reads
-use Rattle.type_reader.proofs.+read_choice+read_item+read_items+read_label+read_message+read_more+read_rest+read_type.{
+use Rattle.type_reader.proofs.+read_choice+read_item+read_items+read_label+read_labels+read_message+read_rest+read_type.{
   statement,
 }
-use Rattle.type_reader.proofs.+read_choice+read_item+read_items+read_label+read_message+read_more+read_rest+read_type.Tie.{
+use Rattle.type_reader.proofs.+read_choice+read_item+read_items+read_label+read_labels+read_message+read_rest+read_type.Tie.{
   close,
 }
 
@@ -70,11 +70,11 @@ abbrev μ-read-items : Measures 3 read-items-kinds.ps ℕ
 abbrev μ-read-label : Measures 3 read-label-kinds.ps ℕ
 μ-read-label κs a = 4 * (length (a .0 .now) - a .1 .1 .1 .0 .at) + 2
 
+abbrev μ-read-labels : Measures 3 read-labels-kinds.ps ℕ
+μ-read-labels κs a = 4 * (length (a .0 .now) - a .1 .1 .1 .0 .at) + 3
+
 abbrev μ-read-message : Measures 3 read-message-kinds.ps ℕ
 μ-read-message κs a = 4 * (length (a .0 .now) - a .1 .1 .1 .0 .at)
-
-abbrev μ-read-more : Measures 3 read-more-kinds.ps ℕ
-μ-read-more κs a = 4 * (length (a .0 .now) - a .1 .1 .1 .0 .at) + 3
 
 abbrev μ-read-rest : Measures 3 read-rest-kinds.ps ℕ
 μ-read-rest κs a = 4 * (length (a .0 .now) - a .1 .1 .1 .0 .at) + 3
@@ -113,6 +113,14 @@ abbrev read-label-below : ℕ → In 3 read-label-kinds.ps
 read-label-below t =
     and 3 read-label-kinds.ps (falls 3 read-label-kinds.ps _<_ μ-read-label t) read-label.Pre
 
+abbrev read-labels-at : ℕ → In 3 read-labels-kinds.ps
+read-labels-at t =
+    and 3 read-labels-kinds.ps (is 3 read-labels-kinds.ps μ-read-labels t) read-labels.Pre
+
+abbrev read-labels-below : ℕ → In 3 read-labels-kinds.ps
+read-labels-below t =
+    and 3 read-labels-kinds.ps (falls 3 read-labels-kinds.ps _<_ μ-read-labels t) read-labels.Pre
+
 abbrev read-message-at : ℕ → In 3 read-message-kinds.ps
 read-message-at t =
     and 3 read-message-kinds.ps (is 3 read-message-kinds.ps μ-read-message t) read-message.Pre
@@ -124,13 +132,6 @@ read-message-below t =
     read-message-kinds.ps
     (falls 3 read-message-kinds.ps _<_ μ-read-message t)
     read-message.Pre
-
-abbrev read-more-at : ℕ → In 3 read-more-kinds.ps
-read-more-at t = and 3 read-more-kinds.ps (is 3 read-more-kinds.ps μ-read-more t) read-more.Pre
-
-abbrev read-more-below : ℕ → In 3 read-more-kinds.ps
-read-more-below t =
-    and 3 read-more-kinds.ps (falls 3 read-more-kinds.ps _<_ μ-read-more t) read-more.Pre
 
 abbrev read-rest-at : ℕ → In 3 read-rest-kinds.ps
 read-rest-at t = and 3 read-rest-kinds.ps (is 3 read-rest-kinds.ps μ-read-rest t) read-rest.Pre
@@ -147,7 +148,7 @@ read-type-below t =
     and 3 read-type-kinds.ps (falls 3 read-type-kinds.ps _<_ μ-read-type t) read-type.Pre
 
 abbrev read-choice-env : ℕ → read-choice-lts.Claims
-read-choice-env t = (begin-node-reads.Asked, begin-node-reads.Learnt, bracket-reads.Asked, bracket-reads.Learnt, take-reads.Asked, take-reads.Learnt, read-label-below t, read-label.Post, store-reads.Asked, store-reads.Learnt)
+read-choice-env t = (begin-node-reads.Asked, begin-node-reads.Learnt, bracket-reads.Asked, bracket-reads.Learnt, read-labels-below t, read-labels.Post, store-reads.Asked, store-reads.Learnt)
 
 abbrev read-item-env : ℕ → read-item-lts.Claims
 read-item-env t = (item-reads.Asked, item-reads.Learnt, read-rest-below t, read-rest.Post, read-type-below t, read-type.Post)
@@ -156,13 +157,13 @@ abbrev read-items-env : ℕ → read-items-lts.Claims
 read-items-env t = (take-reads.Asked, take-reads.Learnt, read-item-below t, read-item.Post)
 
 abbrev read-label-env : ℕ → read-label-lts.Claims
-read-label-env t = (label-reads.Asked, label-reads.Learnt, sign-reads.Asked, sign-reads.Learnt, take-reads.Asked, take-reads.Learnt, read-type-below t, read-type.Post, store-label-reads.Asked, store-label-reads.Learnt, read-more-below t, read-more.Post)
+read-label-env t = (label-reads.Asked, label-reads.Learnt, sign-reads.Asked, sign-reads.Learnt, take-reads.Asked, take-reads.Learnt, read-type-below t, read-type.Post, store-label-reads.Asked, store-label-reads.Learnt)
+
+abbrev read-labels-env : ℕ → read-labels-lts.Claims
+read-labels-env t = (take-reads.Asked, take-reads.Learnt, read-label-below t, read-label.Post)
 
 abbrev read-message-env : ℕ → read-message-lts.Claims
 read-message-env t = (begin-node-reads.Asked, begin-node-reads.Learnt, bracket-reads.Asked, bracket-reads.Learnt, read-items-below t, read-items.Post, sign-reads.Asked, sign-reads.Learnt, take-reads.Asked, take-reads.Learnt, read-type-below t, read-type.Post, store-reads.Asked, store-reads.Learnt)
-
-abbrev read-more-env : ℕ → read-more-lts.Claims
-read-more-env t = (take-reads.Asked, take-reads.Learnt, read-label-below t, read-label.Post)
 
 abbrev read-rest-env : ℕ → read-rest-lts.Claims
 read-rest-env t = (take-reads.Asked, take-reads.Learnt, read-item-below t, read-item.Post)
@@ -197,14 +198,11 @@ read-choice-returns-2 t c = (sound-refused (c .enum-told2 .given .1), λ d k y. 
 read-choice-cast-number : (t : ℕ) → read-choice-lts.Need-cast-number (read-choice-env t) (read-choice-at t) read-choice.Post
 read-choice-cast-number t c = omega (arith, (begun-ready (c .before .before .before .before .before .before .before .before .before .pre .1 .0) (c .before .before .before .before .before .before .before .begin-node .ensures) (c .before .before .before .before .before .r1 .given .1)) .few)
 
-read-choice-take-requires : (t : ℕ) → read-choice-lts.Need-take-requires (read-choice-env t) (read-choice-at t) read-choice.Post
-read-choice-take-requires t c κs = search needs
+read-choice-add-read-labels : (t : ℕ) → read-choice-lts.Need-add-read-labels (read-choice-env t) (read-choice-at t) read-choice.Post
+read-choice-add-read-labels t c = omega (arith, (c .before .before .before .before .before .before .before .before .before .before .before .pre .1 .1))
 
-read-choice-add-read-label : (t : ℕ) → read-choice-lts.Need-add-read-label (read-choice-env t) (read-choice-at t) read-choice.Post
-read-choice-add-read-label t c = omega (arith, (c .before .before .before .before .before .before .before .before .before .before .before .before .pre .1 .1))
-
-read-choice-read-label-requires : (t : ℕ) → read-choice-lts.Need-read-label-requires (read-choice-env t) (read-choice-at t) read-choice.Post
-read-choice-read-label-requires t c κs = let b = (begun-ready (c .before .before .before .before .before .before .before .before .before .before .before .before .pre .1 .0) (c .before .before .before .before .before .before .before .before .before .before .begin-node .ensures) (c .before .before .before .before .before .before .before .before .r1 .given .1)) in let o = (opened-onward ((begun-ready (c .before .before .before .before .before .before .before .before .before .before .before .before .pre .1 .0) (c .before .before .before .before .before .before .before .before .before .before .begin-node .ensures) (c .before .before .before .before .before .before .before .before .r1 .given .1)) .ready) (c .before .before .before .before .before .before .bracket .ensures) (c .before .before .before .before .r2 .given .1) (omega arith)) in let k = (c .take .ensures ((opened-onward ((begun-ready (c .before .before .before .before .before .before .before .before .before .before .before .before .pre .1 .0) (c .before .before .before .before .before .before .before .before .before .before .begin-node .ensures) (c .before .before .before .before .before .before .before .before .r1 .given .1)) .ready) (c .before .before .before .before .before .before .bracket .ensures) (c .before .before .before .before .r2 .given .1) (omega arith)) .0 .ready .inside)) in (omega (arith, c .before .before .before .before .before .before .before .before .before .before .before .before .pre .0, o .0 .further, b .place, (c .before .before .before .before .before .before .before .before .before .before .before .before .pre .1 .0) .order, (c .before .before .before .before .before .before .before .before .before .before .before .before .pre .1 .2), k .from, o .0 .ready .inside), (take-ready (o .0 .ready) k, omega (arith, o .1), omega (arith, b .nodes, o .0 .nodes, k .nodes), omega arith))
+read-choice-read-labels-requires : (t : ℕ) → read-choice-lts.Need-read-labels-requires (read-choice-env t) (read-choice-at t) read-choice.Post
+read-choice-read-labels-requires t c κs = let b = (begun-ready (c .before .before .before .before .before .before .before .before .before .before .before .pre .1 .0) (c .before .before .before .before .before .before .before .before .before .begin-node .ensures) (c .before .before .before .before .before .before .before .r1 .given .1)) in let o = (opened-onward ((begun-ready (c .before .before .before .before .before .before .before .before .before .before .before .pre .1 .0) (c .before .before .before .before .before .before .before .before .before .begin-node .ensures) (c .before .before .before .before .before .before .before .r1 .given .1)) .ready) (c .before .before .before .before .before .bracket .ensures) (c .before .before .before .r2 .given .1) (omega arith)) in (omega (arith, c .before .before .before .before .before .before .before .before .before .before .before .pre .0, o .0 .further, b .place, (c .before .before .before .before .before .before .before .before .before .before .before .pre .1 .0) .order, (c .before .before .before .before .before .before .before .before .before .before .before .pre .1 .2), o .0 .ready .inside), (o .0 .ready, omega (arith, o .1), omega (arith, b .nodes, o .0 .nodes)))
 
 read-choice-enum-known-r3 : (t : ℕ) → read-choice-lts.Need-enum-known-r3 (read-choice-env t) (read-choice-at t) read-choice.Post
 read-choice-enum-known-r3 t c = search needs
@@ -213,13 +211,13 @@ read-choice-enum-told-3 : (t : ℕ) → read-choice-lts.Need-enum-told-3 (read-c
 read-choice-enum-told-3 t c = search needs
 
 read-choice-returns-3 : (t : ℕ) → read-choice-lts.Need-returns-3 (read-choice-env t) (read-choice-at t) read-choice.Post
-read-choice-returns-3 t c = (sound-refused (c .enum-told3 .given .1), λ d k y. choice-told₃ _ (c .before .before .before .before .before .before .before .before .before .before .before .before .before .before .before .pre .1 .0) (c .before .before .before .before .before .before .before .before .before .before .before .before .before .begin-node .ensures) (c .before .before .before .before .before .before .before .before .before .before .before .r1 .given .1) (c .before .before .before .before .before .before .before .before .before .bracket .ensures) (c .before .before .before .before .before .before .before .r2 .given .1) (c .before .before .before .take .ensures ((opened-onward ((begun-ready (c .before .before .before .before .before .before .before .before .before .before .before .before .before .before .before .pre .1 .0) (c .before .before .before .before .before .before .before .before .before .before .before .before .before .begin-node .ensures) (c .before .before .before .before .before .before .before .before .before .before .before .r1 .given .1)) .ready) (c .before .before .before .before .before .before .before .before .before .bracket .ensures) (c .before .before .before .before .before .before .before .r2 .given .1) (omega arith)) .0 .ready .inside)) (c .before .before .read-label .ensures .1) (c .enum-told3 .given .1) d k refl)
+read-choice-returns-3 t c = (sound-refused (c .enum-told3 .given .1), λ d k y. choice-told₃ _ (c .before .before .before .before .before .before .before .before .before .before .before .before .before .before .pre .1 .0) (c .before .before .before .before .before .before .before .before .before .before .before .before .begin-node .ensures) (c .before .before .before .before .before .before .before .before .before .before .r1 .given .1) (c .before .before .before .before .before .before .before .before .bracket .ensures) (c .before .before .before .before .before .before .r2 .given .1) (c .before .before .read-labels .ensures .1) (c .enum-told3 .given .1) d k refl)
 
 read-choice-store-requires : (t : ℕ) → read-choice-lts.Need-store-requires (read-choice-env t) (read-choice-at t) read-choice.Post
-read-choice-store-requires t c κs = (begun-ready (c .before .before .before .before .before .before .before .before .before .before .before .before .before .before .before .before .before .pre .1 .0) (c .before .before .before .before .before .before .before .before .before .before .before .before .before .before .before .begin-node .ensures) (c .before .before .before .before .before .before .before .before .before .before .before .before .before .r1 .given .1)) .few
+read-choice-store-requires t c κs = (begun-ready (c .before .before .before .before .before .before .before .before .before .before .before .before .before .before .before .before .pre .1 .0) (c .before .before .before .before .before .before .before .before .before .before .before .before .before .before .begin-node .ensures) (c .before .before .before .before .before .before .before .before .before .before .before .before .r1 .given .1)) .few
 
 read-choice-returns-4 : (t : ℕ) → read-choice-lts.Need-returns-4 (read-choice-env t) (read-choice-at t) read-choice.Post
-read-choice-returns-4 t c = let b = (begun-ready (c .before .before .before .before .before .before .before .before .before .before .before .before .before .before .before .before .before .before .pre .1 .0) (c .before .before .before .before .before .before .before .before .before .before .before .before .before .before .before .before .begin-node .ensures) (c .before .before .before .before .before .before .before .before .before .before .before .before .before .before .r1 .given .1)) in let o = (opened-onward ((begun-ready (c .before .before .before .before .before .before .before .before .before .before .before .before .before .before .before .before .before .before .pre .1 .0) (c .before .before .before .before .before .before .before .before .before .before .before .before .before .before .before .before .begin-node .ensures) (c .before .before .before .before .before .before .before .before .before .before .before .before .before .before .r1 .given .1)) .ready) (c .before .before .before .before .before .before .before .before .before .before .before .before .bracket .ensures) (c .before .before .before .before .before .before .before .before .before .before .r2 .given .1) (omega arith)) in let k = (c .before .before .before .before .before .before .take .ensures ((opened-onward ((begun-ready (c .before .before .before .before .before .before .before .before .before .before .before .before .before .before .before .before .before .before .pre .1 .0) (c .before .before .before .before .before .before .before .before .before .before .before .before .before .before .before .before .begin-node .ensures) (c .before .before .before .before .before .before .before .before .before .before .before .before .before .before .r1 .given .1)) .ready) (c .before .before .before .before .before .before .before .before .before .before .before .before .bracket .ensures) (c .before .before .before .before .before .before .before .before .before .before .r2 .given .1) (omega arith)) .0 .ready .inside)) in let z = (sound-past (c .before .before .before .before .before .read-label .ensures .0) (c .before .before .before .r3 .given .1)) in (sound-stored _ _ _ (omega (arith, o .0 .further, b .place, (c .before .before .before .before .before .before .before .before .before .before .before .before .before .before .before .before .before .before .pre .1 .0) .order, k .from, z .further)) (omega (arith, b .nodes, b .number, o .0 .nodes, k .nodes, z .more)) (b .few) (z .ready) (c .store .ensures), λ d e y. choice-told₄ _ (c .before .before .before .before .before .before .before .before .before .before .before .before .before .before .before .before .before .before .pre .1 .0) (c .before .before .before .before .before .before .before .before .before .before .before .before .before .before .before .before .begin-node .ensures) (c .before .before .before .before .before .before .before .before .before .before .before .before .before .before .r1 .given .1) (c .before .before .before .before .before .before .before .before .before .before .before .before .bracket .ensures) (c .before .before .before .before .before .before .before .before .before .before .r2 .given .1) k (c .before .before .before .before .before .read-label .ensures .1) (c .before .before .before .r3 .given .1) (z .ready .room-nodes) (c .store .ensures) d e refl y)
+read-choice-returns-4 t c = let b = (begun-ready (c .before .before .before .before .before .before .before .before .before .before .before .before .before .before .before .before .before .pre .1 .0) (c .before .before .before .before .before .before .before .before .before .before .before .before .before .before .before .begin-node .ensures) (c .before .before .before .before .before .before .before .before .before .before .before .before .before .r1 .given .1)) in let o = (opened-onward ((begun-ready (c .before .before .before .before .before .before .before .before .before .before .before .before .before .before .before .before .before .pre .1 .0) (c .before .before .before .before .before .before .before .before .before .before .before .before .before .before .before .begin-node .ensures) (c .before .before .before .before .before .before .before .before .before .before .before .before .before .r1 .given .1)) .ready) (c .before .before .before .before .before .before .before .before .before .before .before .bracket .ensures) (c .before .before .before .before .before .before .before .before .before .r2 .given .1) (omega arith)) in let z = (sound-past (c .before .before .before .before .before .read-labels .ensures .0) (c .before .before .before .r3 .given .1)) in (sound-stored _ _ _ (omega (arith, o .0 .further, b .place, (c .before .before .before .before .before .before .before .before .before .before .before .before .before .before .before .before .before .pre .1 .0) .order, z .further)) (omega (arith, b .nodes, b .number, o .0 .nodes, z .more)) (b .few) (z .ready) (c .store .ensures), λ d e y. choice-told₄ _ (c .before .before .before .before .before .before .before .before .before .before .before .before .before .before .before .before .before .pre .1 .0) (c .before .before .before .before .before .before .before .before .before .before .before .before .before .before .before .begin-node .ensures) (c .before .before .before .before .before .before .before .before .before .before .before .before .before .r1 .given .1) (c .before .before .before .before .before .before .before .before .before .before .before .bracket .ensures) (c .before .before .before .before .before .before .before .before .before .r2 .given .1) (c .before .before .before .before .before .read-labels .ensures .1) (c .before .before .before .r3 .given .1) (z .ready .room-nodes) (c .store .ensures) d e refl y)
 
 read-item-item-requires : (t : ℕ) → read-item-lts.Need-item-requires (read-item-env t) (read-item-at t) read-item.Post
 read-item-item-requires t c κs = search needs
@@ -350,14 +348,53 @@ read-label-returns-3 t c = (sound-refused (c .enum-told3 .given .1), label-told�
 read-label-store-label-requires : (t : ℕ) → read-label-lts.Need-store-label-requires (read-label-env t) (read-label-at t) read-label.Post
 read-label-store-label-requires t c κs = (omega (arith, (c .before .before .before .before .before .before .before .before .before .before .before .before .before .before .before .before .before .before .pre .1 .2), (c .before .before .before .before .before .before .before .before .before .before .before .before .before .before .before .before .before .before .pre .1 .0) .ready .few-nodes), (fresh-label (c .before .before .before .before .before .before .before .before .before .before .before .before .before .before .before .label .ensures) (c .before .before .before .before .before .before .before .before .before .before .before .before .before .r1 .given .1)) .0 .few, omega (arith, (c .before .before .before .before .before .before .before .before .before .before .before .before .before .before .before .before .before .before .pre .1 .0) .order, (c .before .before .before .before .before .before .before .before .before .before .before .before .before .before .before .before .before .before .pre .1 .0) .ready .inside, (c .before .before .before .before .before .before .before .before .before .before .before .before .before .before .before .before .before .before .pre .1 .0) .ready .short), omega (arith, (c .before .before .before .before .before .before .before .before .before .before .before .before .before .before .before .before .before .before .pre .1 .0) .order, (c .before .before .before .before .before .before .before .before .before .before .before .before .before .before .before .before .before .before .pre .1 .0) .ready .inside, (c .before .before .before .before .before .before .before .before .before .before .before .before .before .before .before .before .before .before .pre .1 .0) .ready .short))
 
-read-label-add-read-more : (t : ℕ) → read-label-lts.Need-add-read-more (read-label-env t) (read-label-at t) read-label.Post
-read-label-add-read-more t c = omega (arith, (fresh-label (c .before .before .before .before .before .before .before .before .before .before .before .before .before .before .before .before .before .before .label .ensures) (c .before .before .before .before .before .before .before .before .before .before .before .before .before .before .before .before .r1 .given .1)) .0 .few)
-
-read-label-read-more-requires : (t : ℕ) → read-label-lts.Need-read-more-requires (read-label-env t) (read-label-at t) read-label.Post
-read-label-read-more-requires t c κs = let g = (signed-onward (label-ready (c .before .before .before .before .before .before .before .before .before .before .before .before .before .before .before .before .before .before .before .before .before .pre .1 .0) ((fresh-label (c .before .before .before .before .before .before .before .before .before .before .before .before .before .before .before .before .before .before .label .ensures) (c .before .before .before .before .before .before .before .before .before .before .before .before .before .before .before .before .r1 .given .1)) .1)) (c .before .before .before .before .before .before .before .before .before .before .before .before .before .before .sign .ensures) (c .before .before .before .before .before .before .before .before .before .before .before .before .r2 .given .1) (omega arith)) in let k = (c .before .before .before .before .before .before .before .before .take .ensures ((signed-onward (label-ready (c .before .before .before .before .before .before .before .before .before .before .before .before .before .before .before .before .before .before .before .before .before .pre .1 .0) ((fresh-label (c .before .before .before .before .before .before .before .before .before .before .before .before .before .before .before .before .before .before .label .ensures) (c .before .before .before .before .before .before .before .before .before .before .before .before .before .before .before .before .r1 .given .1)) .1)) (c .before .before .before .before .before .before .before .before .before .before .before .before .before .before .sign .ensures) (c .before .before .before .before .before .before .before .before .before .before .before .before .r2 .given .1) (omega arith)) .ready .inside)) in let z = (sound-past (c .before .before .before .before .before .before .before .read-type .ensures .0) (c .before .before .before .before .before .r3 .given .1)) in let e = label-places ((fresh-label (c .before .before .before .before .before .before .before .before .before .before .before .before .before .before .before .before .before .before .label .ensures) (c .before .before .before .before .before .before .before .before .before .before .before .before .before .before .before .before .r1 .given .1)) .1) in (omega (arith, c .before .before .before .before .before .before .before .before .before .before .before .before .before .before .before .before .before .before .before .before .before .pre .0, e .0, g .further, k .from, z .further, (c .before .before .before .before .before .before .before .before .before .before .before .before .before .before .before .before .before .before .before .before .before .pre .1 .0) .order, z .ready .inside), (ready-row (c .before .before .before .before .before .before .before .before .before .before .before .before .before .before .before .before .before .before .before .before .before .args .node) (c .before .before .before .before .before .before .before .before .before .before .before .before .before .before .before .before .before .before .before .before .before .args .n) (c .before .before .before .before .before .before .before .before .before .before .before .before .before .before .before .before .before .before .before .before .before .args .t) (c .before .before .before .before .before .r3 .given .0 .0) (z .ready) (c .before .before .store-label .ensures), (c .before .before .before .before .before .before .before .before .before .before .before .before .before .before .before .before .before .before .before .before .before .pre .1 .1), omega (arith, (c .before .before .before .before .before .before .before .before .before .before .before .before .before .before .before .before .before .before .before .before .before .pre .1 .2), e .1, g .nodes, k .nodes, z .more), omega (arith, (fresh-label (c .before .before .before .before .before .before .before .before .before .before .before .before .before .before .before .before .before .before .label .ensures) (c .before .before .before .before .before .before .before .before .before .before .before .before .before .before .before .before .r1 .given .1)) .0 .few)))
-
 read-label-returns-4 : (t : ℕ) → read-label-lts.Need-returns-4 (read-label-env t) (read-label-at t) read-label.Post
-read-label-returns-4 t c = let g = (signed-onward (label-ready (c .before .before .before .before .before .before .before .before .before .before .before .before .before .before .before .before .before .before .before .before .before .before .pre .1 .0) ((fresh-label (c .before .before .before .before .before .before .before .before .before .before .before .before .before .before .before .before .before .before .before .label .ensures) (c .before .before .before .before .before .before .before .before .before .before .before .before .before .before .before .before .before .r1 .given .1)) .1)) (c .before .before .before .before .before .before .before .before .before .before .before .before .before .before .before .sign .ensures) (c .before .before .before .before .before .before .before .before .before .before .before .before .before .r2 .given .1) (omega arith)) in let k = (c .before .before .before .before .before .before .before .before .before .take .ensures ((signed-onward (label-ready (c .before .before .before .before .before .before .before .before .before .before .before .before .before .before .before .before .before .before .before .before .before .before .pre .1 .0) ((fresh-label (c .before .before .before .before .before .before .before .before .before .before .before .before .before .before .before .before .before .before .before .label .ensures) (c .before .before .before .before .before .before .before .before .before .before .before .before .before .before .before .before .before .r1 .given .1)) .1)) (c .before .before .before .before .before .before .before .before .before .before .before .before .before .before .before .sign .ensures) (c .before .before .before .before .before .before .before .before .before .before .before .before .before .r2 .given .1) (omega arith)) .ready .inside)) in let z = (sound-past (c .before .before .before .before .before .before .before .before .read-type .ensures .0) (c .before .before .before .before .before .before .r3 .given .1)) in let e = label-places ((fresh-label (c .before .before .before .before .before .before .before .before .before .before .before .before .before .before .before .before .before .before .before .label .ensures) (c .before .before .before .before .before .before .before .before .before .before .before .before .before .before .before .before .before .r1 .given .1)) .1) in (sound-on (c .read-more .ensures .0) (omega (arith, e .0, g .further, k .from, z .further, (c .before .before .before .before .before .before .before .before .before .before .before .before .before .before .before .before .before .before .before .before .before .before .pre .1 .0) .order)) (omega (arith, e .1, g .nodes, k .nodes, z .more)), label-told₄ _ _ _ (c .before .before .before .before .before .before .before .before .before .before .before .before .before .before .before .before .before .before .before .before .before .before .pre .1 .0) (c .before .before .before .before .before .before .before .before .before .before .before .before .before .before .before .before .before .before .before .label .ensures) (c .before .before .before .before .before .before .before .before .before .before .before .before .before .before .before .before .before .r1 .given .1) (c .before .before .before .before .before .before .before .before .before .before .before .before .before .before .before .sign .ensures) (c .before .before .before .before .before .before .before .before .before .before .before .before .before .r2 .given .1) k (c .before .before .before .before .before .before .before .before .read-type .ensures .1) (c .before .before .before .before .before .before .r3 .given .1) (c .before .before .before .before .before .before .before .before .before .before .before .before .before .before .before .before .before .before .before .before .before .before .pre .1 .2) (z .ready .few-nodes) (z .ready .room-nodes) (c .before .before .before .store-label .ensures) (c .read-more .ensures .1))
+read-label-returns-4 t c = let g = (signed-onward (label-ready (c .before .before .before .before .before .before .before .before .before .before .before .before .before .before .before .before .before .before .before .pre .1 .0) ((fresh-label (c .before .before .before .before .before .before .before .before .before .before .before .before .before .before .before .before .label .ensures) (c .before .before .before .before .before .before .before .before .before .before .before .before .before .before .r1 .given .1)) .1)) (c .before .before .before .before .before .before .before .before .before .before .before .before .sign .ensures) (c .before .before .before .before .before .before .before .before .before .before .r2 .given .1) (omega arith)) in let k = (c .before .before .before .before .before .before .take .ensures ((signed-onward (label-ready (c .before .before .before .before .before .before .before .before .before .before .before .before .before .before .before .before .before .before .before .pre .1 .0) ((fresh-label (c .before .before .before .before .before .before .before .before .before .before .before .before .before .before .before .before .label .ensures) (c .before .before .before .before .before .before .before .before .before .before .before .before .before .before .r1 .given .1)) .1)) (c .before .before .before .before .before .before .before .before .before .before .before .before .sign .ensures) (c .before .before .before .before .before .before .before .before .before .before .r2 .given .1) (omega arith)) .ready .inside)) in let z = (sound-past (c .before .before .before .before .before .read-type .ensures .0) (c .before .before .before .r3 .given .1)) in let e = label-places ((fresh-label (c .before .before .before .before .before .before .before .before .before .before .before .before .before .before .before .before .label .ensures) (c .before .before .before .before .before .before .before .before .before .before .before .before .before .before .r1 .given .1)) .1) in (sound-row (c .before .before .before .before .before .before .before .before .before .before .before .before .before .before .before .before .before .before .before .args .node) (c .before .before .before .before .before .before .before .before .before .before .before .before .before .before .before .before .before .before .before .args .n) (c .before .before .before .before .before .before .before .before .before .before .before .before .before .before .before .before .before .before .before .args .t) (c .before .before .before .r3 .given .0 .0) (omega (arith, e .0, g .further, k .from, z .further, (c .before .before .before .before .before .before .before .before .before .before .before .before .before .before .before .before .before .before .before .pre .1 .0) .order)) (omega (arith, e .1, g .nodes, k .nodes, z .more)) (z .ready) (c .store-label .ensures), label-told₄ _ _ _ (c .before .before .before .before .before .before .before .before .before .before .before .before .before .before .before .before .before .before .before .pre .1 .0) (c .before .before .before .before .before .before .before .before .before .before .before .before .before .before .before .before .label .ensures) (c .before .before .before .before .before .before .before .before .before .before .before .before .before .before .r1 .given .1) (c .before .before .before .before .before .before .before .before .before .before .before .before .sign .ensures) (c .before .before .before .before .before .before .before .before .before .before .r2 .given .1) k (c .before .before .before .before .before .read-type .ensures .1) (c .before .before .before .r3 .given .1) (c .before .before .before .before .before .before .before .before .before .before .before .before .before .before .before .before .before .before .before .pre .1 .2) (z .ready .few-nodes) (z .ready .room-nodes) (c .store-label .ensures))
+
+abbrev read-labels-Inv-loop : read-labels-lts.InvT-loop
+read-labels-Inv-loop s nodes₀ uses₀ deep node from₀ n₀ nodes uses from n = Turning s nodes₀ uses₀ nodes uses deep node from₀ from n
+
+abbrev read-labels-μ-loop : read-labels-lts.MeasureT-loop
+read-labels-μ-loop s nodes₀ uses₀ deep node from₀ n₀ nodes uses from n = length s - from .at
+
+read-labels-loop-holds : (t : ℕ) → read-labels-lts.Need-loop-holds (read-labels-env t) (read-labels-at t) read-labels.Post read-labels-Inv-loop read-labels-μ-loop
+read-labels-loop-holds t c = turn-first (c .before .pre .1 .0)
+
+read-labels-take-requires : (t : ℕ) → read-labels-lts.Need-take-requires (read-labels-env t) (read-labels-at t) read-labels.Post read-labels-Inv-loop read-labels-μ-loop
+read-labels-take-requires t c κs = search needs
+
+read-labels-read-label-requires : (t : ℕ) → read-labels-lts.Need-read-label-requires (read-labels-env t) (read-labels-at t) read-labels.Post read-labels-Inv-loop read-labels-μ-loop
+read-labels-read-label-requires t c κs = let v = (c .before .before .before .loop .inv) in let k = (c .take .ensures ((c .before .before .before .loop .inv) .ready .inside)) in (omega (arith, c .before .before .before .before .before .pre .0, v .onward, k .from), (take-ready (v .ready) k, (c .before .before .before .before .before .pre .1 .1), omega (arith, (c .before .before .before .before .before .pre .1 .2), v .more, k .nodes), v .few))
+
+read-labels-enum-known-r1 : (t : ℕ) → read-labels-lts.Need-enum-known-r1 (read-labels-env t) (read-labels-at t) read-labels.Post read-labels-Inv-loop read-labels-μ-loop
+read-labels-enum-known-r1 t c = search needs
+
+read-labels-enum-told : (t : ℕ) → read-labels-lts.Need-enum-told (read-labels-env t) (read-labels-at t) read-labels.Post read-labels-Inv-loop read-labels-μ-loop
+read-labels-enum-told t c = search needs
+
+read-labels-returns : (t : ℕ) → read-labels-lts.Need-returns (read-labels-env t) (read-labels-at t) read-labels.Post read-labels-Inv-loop read-labels-μ-loop
+read-labels-returns t c = (sound-refused (c .enum-told .given .1), turn-refused (c .before .before .before .before .before .before .loop .inv) (c .before .before .before .take .ensures ((c .before .before .before .before .before .before .loop .inv) .ready .inside)) (c .before .before .read-label .ensures .1) (c .enum-told .given .1))
+
+read-labels-add-n : (t : ℕ) → read-labels-lts.Need-add-n (read-labels-env t) (read-labels-at t) read-labels.Post read-labels-Inv-loop read-labels-μ-loop
+read-labels-add-n t c = omega (arith, (c .before .before .before .read-label .ensures .1) .few (c .before .r1 .given .1))
+
+read-labels-take-requires-2 : (t : ℕ) → read-labels-lts.Need-take-requires-2 (read-labels-env t) (read-labels-at t) read-labels.Post read-labels-Inv-loop read-labels-μ-loop
+read-labels-take-requires-2 t c κs = search needs
+
+read-labels-cast-t17 : (t : ℕ) → read-labels-lts.Need-cast-t17 (read-labels-env t) (read-labels-at t) read-labels.Post read-labels-Inv-loop read-labels-μ-loop
+read-labels-cast-t17 t c = omega (arith, (c .before .before .before .before .before .before .before .read-label .ensures .1) .few (c .before .before .before .before .before .r1 .given .1))
+
+read-labels-returns-2 : (t : ℕ) → read-labels-lts.Need-returns-2 (read-labels-env t) (read-labels-at t) read-labels.Post read-labels-Inv-loop read-labels-μ-loop
+read-labels-returns-2 t c = let v = (c .before .before .before .before .before .before .before .before .before .before .before .loop .inv) in let k = (c .before .before .before .before .before .before .before .before .take .ensures ((c .before .before .before .before .before .before .before .before .before .before .before .loop .inv) .ready .inside)) in let z = (sound-past (c .before .before .before .before .before .before .before .read-label .ensures .0) (c .before .before .before .before .before .r1 .given .1)) in let w = onward-taken ((sound-past (c .before .before .before .before .before .before .before .read-label .ensures .0) (c .before .before .before .before .before .r1 .given .1)) .ready) (c .before .before .before .take2 .ensures ((sound-past (c .before .before .before .before .before .before .before .read-label .ensures .0) (c .before .before .before .before .before .r1 .given .1)) .ready .inside)) (c .if1 .taken) (omega arith) in (sound-on (sound-step w (omega (arith, (c .before .before .before .before .before .before .before .read-label .ensures .1) .few (c .before .before .before .before .before .r1 .given .1)))) (omega (arith, v .onward, k .from, z .further)) (omega (arith, v .more, k .nodes, z .more)), turn-closed (c .before .before .before .before .before .before .before .before .before .before .before .loop .inv) (c .before .before .before .before .before .before .before .before .take .ensures ((c .before .before .before .before .before .before .before .before .before .before .before .loop .inv) .ready .inside)) (c .before .before .before .before .before .before .before .read-label .ensures .1) (c .before .before .before .before .before .r1 .given .1) (c .before .before .before .before .before .before .before .before .before .before .before .before .before .pre .1 .2) (c .before .before .before .take2 .ensures ((sound-past (c .before .before .before .before .before .before .before .read-label .ensures .0) (c .before .before .before .before .before .r1 .given .1)) .ready .inside)) (c .if1 .taken))
+
+read-labels-returns-3 : (t : ℕ) → read-labels-lts.Need-returns-3 (read-labels-env t) (read-labels-at t) read-labels.Post read-labels-Inv-loop read-labels-μ-loop
+read-labels-returns-3 t c = (refused, turn-other (c .before .before .before .before .before .before .before .before .before .before .before .before .before .loop .inv) (c .before .before .before .before .before .before .before .before .before .before .take .ensures ((c .before .before .before .before .before .before .before .before .before .before .before .before .before .loop .inv) .ready .inside)) (c .before .before .before .before .before .before .before .before .before .read-label .ensures .1) (c .before .before .before .before .before .before .before .r1 .given .1) (c .before .before .before .before .before .before .before .before .before .before .before .before .before .before .before .pre .1 .2) (c .before .before .before .before .before .take2 .ensures ((sound-past (c .before .before .before .before .before .before .before .before .before .read-label .ensures .0) (c .before .before .before .before .before .before .before .r1 .given .1)) .ready .inside)) (c .before .before .if1 .left) (c .if2 .taken))
+
+read-labels-loop-less : (t : ℕ) → read-labels-lts.Need-loop-less (read-labels-env t) (read-labels-at t) read-labels.Post read-labels-Inv-loop read-labels-μ-loop
+read-labels-loop-less t c = let k = (c .before .before .before .before .before .before .before .before .before .before .take .ensures ((c .before .before .before .before .before .before .before .before .before .before .before .before .before .loop .inv) .ready .inside)) in let z = (sound-past (c .before .before .before .before .before .before .before .before .before .read-label .ensures .0) (c .before .before .before .before .before .before .before .r1 .given .1)) in let w = onward-taken ((sound-past (c .before .before .before .before .before .before .before .before .before .read-label .ensures .0) (c .before .before .before .before .before .before .before .r1 .given .1)) .ready) (c .before .before .before .before .before .take2 .ensures ((sound-past (c .before .before .before .before .before .before .before .before .before .read-label .ensures .0) (c .before .before .before .before .before .before .before .r1 .given .1)) .ready .inside)) (c .if2 .left) (omega arith) in omega (arith, k .from, z .further, w .further, w .ready .inside)
+
+read-labels-loop-again : (t : ℕ) → read-labels-lts.Need-loop-again (read-labels-env t) (read-labels-at t) read-labels.Post read-labels-Inv-loop read-labels-μ-loop
+read-labels-loop-again t c = let k = (c .before .before .before .before .before .before .before .before .before .before .take .ensures ((c .before .before .before .before .before .before .before .before .before .before .before .before .before .loop .inv) .ready .inside)) in let z = (sound-past (c .before .before .before .before .before .before .before .before .before .read-label .ensures .0) (c .before .before .before .before .before .before .before .r1 .given .1)) in let w = onward-taken ((sound-past (c .before .before .before .before .before .before .before .before .before .read-label .ensures .0) (c .before .before .before .before .before .before .before .r1 .given .1)) .ready) (c .before .before .before .before .before .take2 .ensures ((sound-past (c .before .before .before .before .before .before .before .before .before .read-label .ensures .0) (c .before .before .before .before .before .before .before .r1 .given .1)) .ready .inside)) (c .if2 .left) (omega arith) in turn-next (c .before .before .before .before .before .before .before .before .before .before .before .before .before .loop .inv) (c .before .before .before .before .before .before .before .before .before .before .take .ensures ((c .before .before .before .before .before .before .before .before .before .before .before .before .before .loop .inv) .ready .inside)) (c .before .before .before .before .before .before .before .before .before .read-label .ensures .1) (c .before .before .before .before .before .before .before .r1 .given .1) (c .before .before .before .before .before .before .before .before .before .before .before .before .before .before .before .pre .1 .2) (c .before .before .before .before .before .take2 .ensures ((sound-past (c .before .before .before .before .before .before .before .before .before .read-label .ensures .0) (c .before .before .before .before .before .before .before .r1 .given .1)) .ready .inside)) (c .if2 .left) (w .ready) (omega (arith, k .from, z .further, w .further)) (omega (arith, k .nodes, z .more, w .nodes))
 
 read-message-begin-node-requires : (t : ℕ) → read-message-lts.Need-begin-node-requires (read-message-env t) (read-message-at t) read-message.Post
 read-message-begin-node-requires t c κs = (c .before .pre .1 .0) .ready .few-nodes
@@ -434,27 +471,6 @@ read-message-store-requires t c κs = (begun-ready (c .before .before .before .b
 read-message-returns-6 : (t : ℕ) → read-message-lts.Need-returns-6 (read-message-env t) (read-message-at t) read-message.Post
 read-message-returns-6 t c = let b = (begun-ready (c .before .before .before .before .before .before .before .before .before .before .before .before .before .before .before .before .before .before .before .before .before .before .before .before .before .before .before .before .pre .1 .0) (c .before .before .before .before .before .before .before .before .before .before .before .before .before .before .before .before .before .before .before .before .before .before .before .before .before .before .begin-node .ensures) (c .before .before .before .before .before .before .before .before .before .before .before .before .before .before .before .before .before .before .before .before .before .before .before .before .r1 .given .1)) in let o = (opened-onward ((begun-ready (c .before .before .before .before .before .before .before .before .before .before .before .before .before .before .before .before .before .before .before .before .before .before .before .before .before .before .before .before .pre .1 .0) (c .before .before .before .before .before .before .before .before .before .before .before .before .before .before .before .before .before .before .before .before .before .before .before .before .before .before .begin-node .ensures) (c .before .before .before .before .before .before .before .before .before .before .before .before .before .before .before .before .before .before .before .before .before .before .before .before .r1 .given .1)) .ready) (c .before .before .before .before .before .before .before .before .before .before .before .before .before .before .before .before .before .before .before .before .before .before .bracket .ensures) (c .before .before .before .before .before .before .before .before .before .before .before .before .before .before .before .before .before .before .before .before .r2 .given .1) (omega (arith, (c .before .before .before .before .before .before .before .before .before .before .before .before .before .before .before .before .before .before .before .before .before .before .before .before .before .before .before .before .pre .1 .3)))) in let z = (sound-past (c .before .before .before .before .before .before .before .before .before .before .before .before .before .before .before .before .read-items .ensures .0) (c .before .before .before .before .before .before .before .before .before .before .before .before .before .before .r3 .given .1)) in let g = (signed-onward ((sound-past (c .before .before .before .before .before .before .before .before .before .before .before .before .before .before .before .before .read-items .ensures .0) (c .before .before .before .before .before .before .before .before .before .before .before .before .before .before .r3 .given .1)) .ready) (c .before .before .before .before .before .before .before .before .before .before .before .before .sign .ensures) (c .before .before .before .before .before .before .before .before .before .before .r4 .given .1) (omega arith)) in let k = (c .before .before .before .before .before .before .take .ensures ((signed-onward ((sound-past (c .before .before .before .before .before .before .before .before .before .before .before .before .before .before .before .before .read-items .ensures .0) (c .before .before .before .before .before .before .before .before .before .before .before .before .before .before .r3 .given .1)) .ready) (c .before .before .before .before .before .before .before .before .before .before .before .before .sign .ensures) (c .before .before .before .before .before .before .before .before .before .before .r4 .given .1) (omega arith)) .ready .inside)) in let y = (sound-past (c .before .before .before .before .before .read-type .ensures .0) (c .before .before .before .r5 .given .1)) in (sound-stored _ _ _ (omega (arith, o .0 .further, b .place, (c .before .before .before .before .before .before .before .before .before .before .before .before .before .before .before .before .before .before .before .before .before .before .before .before .before .before .before .before .pre .1 .0) .order, z .further, g .further, k .from, y .further)) (omega (arith, b .nodes, b .number, o .0 .nodes, z .more, g .nodes, k .nodes, y .more)) (b .few) (y .ready) (c .store .ensures), λ d e q x w. message-told₆ _ (c .before .before .before .before .before .before .before .before .before .before .before .before .before .before .before .before .before .before .before .before .before .before .before .before .before .before .before .before .pre .1 .0) (c .before .before .before .before .before .before .before .before .before .before .before .before .before .before .before .before .before .before .before .before .before .before .before .before .before .before .begin-node .ensures) (c .before .before .before .before .before .before .before .before .before .before .before .before .before .before .before .before .before .before .before .before .before .before .before .before .r1 .given .1) (c .before .before .before .before .before .before .before .before .before .before .before .before .before .before .before .before .before .before .before .before .before .before .bracket .ensures) (c .before .before .before .before .before .before .before .before .before .before .before .before .before .before .before .before .before .before .before .before .r2 .given .1) (c .before .before .before .before .before .before .before .before .before .before .before .before .before .before .before .before .read-items .ensures .1) (c .before .before .before .before .before .before .before .before .before .before .before .before .before .before .r3 .given .1) (c .before .before .before .before .before .before .before .before .before .before .before .before .sign .ensures) (c .before .before .before .before .before .before .before .before .before .before .r4 .given .1) k (c .before .before .before .before .before .read-type .ensures .1) (c .before .before .before .r5 .given .1) (y .ready .room-nodes) (c .store .ensures) d e q x w)
 
-read-more-take-requires : (t : ℕ) → read-more-lts.Need-take-requires (read-more-env t) (read-more-at t) read-more.Post
-read-more-take-requires t c κs = search needs
-
-read-more-cast-t11 : (t : ℕ) → read-more-lts.Need-cast-t11 (read-more-env t) (read-more-at t) read-more.Post
-read-more-cast-t11 t c = omega (arith, (c .before .before .before .before .before .pre .1 .3))
-
-read-more-returns : (t : ℕ) → read-more-lts.Need-returns (read-more-env t) (read-more-at t) read-more.Post
-read-more-returns t c = let k = (c .before .before .before .take .ensures ((c .before .before .before .before .before .pre .1 .0) .inside)) in (sound-step (onward-taken (c .before .before .before .before .before .pre .1 .0) k (c .if1 .taken) (omega arith)) (omega (arith, (c .before .before .before .before .before .pre .1 .3))), more-none ((c .before .before .before .before .before .pre .1 .0) .short) _ _ k (c .if1 .taken))
-
-read-more-take-requires-2 : (t : ℕ) → read-more-lts.Need-take-requires-2 (read-more-env t) (read-more-at t) read-more.Post
-read-more-take-requires-2 t c κs = search needs
-
-read-more-read-label-requires : (t : ℕ) → read-more-lts.Need-read-label-requires (read-more-env t) (read-more-at t) read-more.Post
-read-more-read-label-requires t c κs = let w = (onward-taken (c .before .before .before .before .before .before .before .before .before .before .pre .1 .0) (c .before .before .before .before .before .before .before .before .take .ensures ((c .before .before .before .before .before .before .before .before .before .before .pre .1 .0) .inside)) (c .before .before .before .if2 .taken) (omega arith)) in let k = (c .take2 .ensures ((onward-taken (c .before .before .before .before .before .before .before .before .before .before .pre .1 .0) (c .before .before .before .before .before .before .before .before .take .ensures ((c .before .before .before .before .before .before .before .before .before .before .pre .1 .0) .inside)) (c .before .before .before .if2 .taken) (omega arith)) .ready .inside)) in (omega (arith, c .before .before .before .before .before .before .before .before .before .before .pre .0, w .further, k .from, w .ready .inside), (take-ready (w .ready) k, (c .before .before .before .before .before .before .before .before .before .before .pre .1 .1), omega (arith, (c .before .before .before .before .before .before .before .before .before .before .pre .1 .2), w .nodes, k .nodes), (c .before .before .before .before .before .before .before .before .before .before .pre .1 .3)))
-
-read-more-returns-2 : (t : ℕ) → read-more-lts.Need-returns-2 (read-more-env t) (read-more-at t) read-more.Post
-read-more-returns-2 t c = let w = (onward-taken (c .before .before .before .before .before .before .before .before .before .before .before .pre .1 .0) (c .before .before .before .before .before .before .before .before .before .take .ensures ((c .before .before .before .before .before .before .before .before .before .before .before .pre .1 .0) .inside)) (c .before .before .before .before .if2 .taken) (omega arith)) in let k = (c .before .take2 .ensures ((onward-taken (c .before .before .before .before .before .before .before .before .before .before .before .pre .1 .0) (c .before .before .before .before .before .before .before .before .before .take .ensures ((c .before .before .before .before .before .before .before .before .before .before .before .pre .1 .0) .inside)) (c .before .before .before .before .if2 .taken) (omega arith)) .ready .inside)) in (sound-on (c .read-label .ensures .0) (omega (arith, w .further, k .from)) (omega (arith, w .nodes, k .nodes)), more-some ((c .before .before .before .before .before .before .before .before .before .before .before .pre .1 .0) .short) (c .before .before .before .before .before .before .before .before .before .take .ensures ((c .before .before .before .before .before .before .before .before .before .before .before .pre .1 .0) .inside)) (c .before .before .before .before .if2 .taken) k (c .read-label .ensures .1))
-
-read-more-returns-3 : (t : ℕ) → read-more-lts.Need-returns-3 (read-more-env t) (read-more-at t) read-more.Post
-read-more-returns-3 t c = (refused, more-other ((c .before .before .before .before .before .before .before .pre .1 .0) .short) _ _ _ _ (c .before .before .before .before .before .take .ensures ((c .before .before .before .before .before .before .before .pre .1 .0) .inside)) (c .before .before .if1 .left) (c .if2 .left))
-
 read-rest-take-requires : (t : ℕ) → read-rest-lts.Need-take-requires (read-rest-env t) (read-rest-at t) read-rest.Post
 read-rest-take-requires t c κs = search needs
 
@@ -515,16 +531,16 @@ read-type-returns-6 t c = (c .read-choice2 .ensures .0, c .read-choice2 .ensures
 read-type-returns-7 : (t : ℕ) → read-type-lts.Need-returns-7 (read-type-env t) (read-type-at t) read-type.Post
 read-type-returns-7 t c = (refused, type-none ((c .before .before .before .before .before .before .before .pre .1 .0) .ready .short) _ _ (c .before .before .before .before .before .if1 .left) (c .before .before .before .before .if2 .left) (c .before .before .before .if3 .left) (c .before .before .if4 .left) (c .before .if5 .left) (c .if6 .left))
 
-pub +read-choice+read-item+read-items+read-label+read-message+read-more+read-rest+read-type-spec :
+pub +read-choice+read-item+read-items+read-label+read-labels+read-message+read-rest+read-type-spec :
     {M : Type 1} → statement M
-+read-choice+read-item+read-items+read-label+read-message+read-more+read-rest+read-type-spec =
++read-choice+read-item+read-items+read-label+read-labels+read-message+read-rest+read-type-spec =
     close
     μ-read-choice
     μ-read-item
     μ-read-items
     μ-read-label
+    μ-read-labels
     μ-read-message
-    μ-read-more
     μ-read-rest
     μ-read-type
     (λ t. read-choice-lts.spec (
@@ -532,10 +548,8 @@ pub +read-choice+read-item+read-items+read-label+read-message+read-more+read-res
       begin-node-reads.Learnt,
       bracket-reads.Asked,
       bracket-reads.Learnt,
-      take-reads.Asked,
-      take-reads.Learnt,
-      read-label-below t,
-      read-label.Post,
+      read-labels-below t,
+      read-labels.Post,
       store-reads.Asked,
       store-reads.Learnt,
     )
@@ -550,9 +564,8 @@ pub +read-choice+read-item+read-items+read-label+read-message+read-more+read-res
     (read-choice-enum-told-2 t)
     (read-choice-returns-2 t)
     (read-choice-cast-number t)
-    (read-choice-take-requires t)
-    (read-choice-add-read-label t)
-    (read-choice-read-label-requires t)
+    (read-choice-add-read-labels t)
+    (read-choice-read-labels-requires t)
     (read-choice-enum-known-r3 t)
     (read-choice-enum-told-3 t)
     (read-choice-returns-3 t)
@@ -616,8 +629,6 @@ pub +read-choice+read-item+read-items+read-label+read-message+read-more+read-res
       read-type.Post,
       store-label-reads.Asked,
       store-label-reads.Learnt,
-      read-more-below t,
-      read-more.Post,
     )
     (read-label-at t)
     read-label.Post
@@ -635,9 +646,30 @@ pub +read-choice+read-item+read-items+read-label+read-message+read-more+read-res
     (read-label-enum-told-3 t)
     (read-label-returns-3 t)
     (read-label-store-label-requires t)
-    (read-label-add-read-more t)
-    (read-label-read-more-requires t)
     (read-label-returns-4 t))
+    (λ t. read-labels-lts.spec (
+      take-reads.Asked,
+      take-reads.Learnt,
+      read-label-below t,
+      read-label.Post,
+    )
+    (read-labels-at t)
+    read-labels.Post
+    read-labels-Inv-loop
+    read-labels-μ-loop
+    (read-labels-loop-holds t)
+    (read-labels-take-requires t)
+    (read-labels-read-label-requires t)
+    (read-labels-enum-known-r1 t)
+    (read-labels-enum-told t)
+    (read-labels-returns t)
+    (read-labels-add-n t)
+    (read-labels-take-requires-2 t)
+    (read-labels-cast-t17 t)
+    (read-labels-returns-2 t)
+    (read-labels-returns-3 t)
+    (read-labels-loop-less t)
+    (read-labels-loop-again t))
     (λ t. read-message-lts.spec (
       begin-node-reads.Asked,
       begin-node-reads.Learnt,
@@ -681,21 +713,6 @@ pub +read-choice+read-item+read-items+read-label+read-message+read-more+read-res
     (read-message-returns-5 t)
     (read-message-store-requires t)
     (read-message-returns-6 t))
-    (λ t. read-more-lts.spec (
-      take-reads.Asked,
-      take-reads.Learnt,
-      read-label-below t,
-      read-label.Post,
-    )
-    (read-more-at t)
-    read-more.Post
-    (read-more-take-requires t)
-    (read-more-cast-t11 t)
-    (read-more-returns t)
-    (read-more-take-requires-2 t)
-    (read-more-read-label-requires t)
-    (read-more-returns-2 t)
-    (read-more-returns-3 t))
     (λ t. read-rest-lts.spec (
       take-reads.Asked,
       take-reads.Learnt,
