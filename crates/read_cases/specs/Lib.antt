@@ -1,0 +1,2 @@
+-- What the functions that put a text together say of it.
+pub mod Room
