@@ -24,6 +24,7 @@ use Rattle.flat.specs.Flat.{sort-number}
 use Rattle.table.specs.declared.Sort.{Sort}
 use Rattle.table.specs.declared.Sort.the-variants.{String, Float, Boolean, Void}
 use Rattle.type_reader.specs.Leaves.{begins-type, begins-item, is-sort}
+use Rattle.type_reader.proofs.Signs.{Plain}
 use Rattle.type_reader.proofs.Begins.{look-past, no-row}
 use Rattle.type_reader.proofs.Sorts.{sort-between}
 
@@ -279,3 +280,11 @@ unfolding step
 rest-stuck d K (word w) n m = refl
 rest-stuck d K (reserved-word i) n m = no-row i
 rest-stuck d K (one-byte b) n m = look-past b (code ",") _ _ (λ q. m (ap one-byte q)) (look-past b (close-byte d) K [] (λ q. n (ap one-byte q)) (no-row b))
+
+pub comma : Plain (code ",")
+unfolding one-of first
+comma = record { byte = omega arith; no-opening = refl; no-closing = refl; no-node = refl }
+
+pub comma-next : next-symbol (one-byte (code ",")) ≡ an-item
+unfolding one-of first
+comma-next = refl

@@ -1,16 +1,15 @@
 -- The loop over the labels of a choice: what is answered for the labels still to be read is what is answered for all of them.
 -- Assumes nothing.
 use mathlib.Core.List.{List, [], _∷_}
-use mathlib.Core.Logic.{inl, inr}
-use mathlib.Core.Path.{_≡_, refl, ap, _∙_}
+use mathlib.Core.Path.{_≡_, refl, _∙_}
 use Prim.Native.Char.{code}
 use Prim.Native.Nat.{ℕ, suc, _+_, _*_, _<_, _≤_}
 use native.Mathlib.Omega.{arith}
-use lib.ListN.{length, getD}
+use lib.ListN.{length}
 use Rattle.rules.specs.Tokens.{Token, word, one-byte, symbol, symbols}
 use Rattle.rules.specs.Notation.{Ty, last-label, label, sign, write-type}
 use Rattle.rules.specs.Numbers.{labels-most}
-use Rattle.rules.specs.Numbering.{behind-labels}
+use Rattle.rules.specs.Numbering.{behind}
 use Rattle.rules.specs.Refusals.{a-label, unexpected}
 use Rattle.rules.proofs.Links.{behind-more}
 use Rattle.rules.proofs.Machine.{Stack}
@@ -22,67 +21,27 @@ use Rattle.cursor.specs.Takes.{Takes}
 use Rattle.cursor.specs.declared.Cursor.{Cursor}
 use Rattle.cursor.specs.declared.Taken.{Taken}
 use Rattle.cursor.proofs.Symbols.{kind-of-byte}
-use Rattle.flat.specs.Flat.{room, list-from, row, raw, raw-row, raw-labels, used-labels, words-of, Holds, Stored, StoredLabels}
-use Rattle.type_reader.specs.Answers.{Ready, alone, PastList, PastLabel, LabelGot, LabelsGot, LabelRead, LabelsRead}
+use Rattle.flat.specs.Flat.{room, list-from, raw-row, raw-labels, used, words-of}
+use Rattle.type_reader.specs.Answers.{Ready, alone, PastLabel, LabelGot, LabelsGot, LabelRead, LabelsRead}
 use Rattle.type_reader.specs.Answers as answers
 use Rattle.type_reader.specs.declared.Got.{Got}
 use Rattle.type_reader.specs.declared.Got.the-variants.{Past, Refused}
 use Rattle.type_reader.proofs.Took.{not-here}
-use Rattle.type_reader.proofs.Standing.{kept-then}
-use Rattle.type_reader.proofs.Messages.{holds-from}
 use Rattle.type_reader.proofs.ItemSteps.{close-labels}
 use Rattle.type_reader.proofs.LabelSteps.{more-closes, more-bar, more-stuck, bar, bar-next}
-use Rattle.type_reader.proofs.Lists.{list-closes, mark-taken}
-use Rattle.type_reader.proofs.Frames.{Same, holds-more, holds-same, stored-same, used-more}
-
--- a row, and the numbers behind it
-row-then : {a : List ℕ} (i p q r : ℕ) (ns : List ℕ) → Holds a i (p ∷ q ∷ r ∷ []) → Holds a (i + 3) ns → Holds a i (p ∷ q ∷ r ∷ ns)
-row-then {a} i p q r ns h g =
-    holds-more i p _ (ap (λ j. getD a j 0) (omega arith) ∙ h .each 0 (omega arith))
-    (holds-more (i + 1) q _ (h .each 1 (omega arith))
-    (holds-more (i + 1 + 1) r ns (ap (λ j. getD a j 0) (omega arith) ∙ h .each 2 (omega arith)) (holds-from (i + 1 + 1 + 1) g (omega arith))))
+use Rattle.type_reader.proofs.Lists.{list-closes, mark-taken, entry-then}
+use Rattle.type_reader.proofs.Frames.{stored-same, used-more}
 
 -- a label that was read, and what stands behind it
 module _ {s a b a₁ b₁ : List ℕ} {K : Stack} {ns : List (List ℕ)} {bs : List (List (List ℕ))} {k u node n : ℕ} (i : node < k) (few : n < labels-most) (ts : List Token) (w : Token) (x : Ty) {c : Cursor} (written : symbols ts ≡ word w ∷ sign ":" ∷ write-type x (symbols (tokens-behind s (c .at)))) (p : PastLabel s a b a₁ b₁ K ns bs k u node n w x c) where
-  label-then :
-      {a₂ b₂ : List ℕ} {k′ u′ : ℕ} (cells : List ℕ) {Store : Type 0} {c′ : Cursor}
-      → PastList s a₁ b₁ a₂ b₂ K ns bs (c .nodes) (c .uses) k′ u′ (node * room + list-from + (n + 1) * row) (node * room + room) cells Store c′
-      → PastList s a b a₂ b₂ K ns bs k u k′ u′ (node * room + list-from + n * row) (node * room + room) (raw-row w x k u cells)
-      (Stored a₂ b₂ x k u × Store) c′
-  label-then {a₂} {b₂} cells y =
-      let from : ℕ = node * room + list-from + n * row in
-      let z = rw (p .nodes, p .uses) at y in
-      let more = behind-more x k in
-      let row-stays : Same a₁ a₂ from (from + 3) = record { each = λ q f h. z .kept .each q (omega arith) (inl (omega arith)) } in
-      record {
-        reached = z .reached;
-        nodes = z .nodes;
-        uses = z .uses;
-        holds =
-            row-then from (w .at) (length (w .spelled)) (raw x k u) cells
-            (holds-same from (raw-row w x k u []) (p .holds) row-stays (omega arith) (omega arith)) (holds-from (from + 3) (z .holds) (omega arith));
-        stored = (
-          stored-same a₁ b₁ a₂ b₂ x k u (p .stored) (record { each = λ q f h. z .kept .each q h (inr (omega arith)) })
-              (record { each = λ q f h. z .kept-uses .each q h }),
-          z .stored,
-        );
-        kept =
-            record {
-              each = λ q f h.
-                  z .kept .each q (omega arith) (elim h [ inl m ↦ inl (omega arith) | inr m ↦ inr m ]) ∙ p .kept .each q f h;
-            };
-        kept-uses = kept-then (p .kept-uses) (z .kept-uses) (used-more x u);
-      }
-
   -- `|` and further labels
   label-more :
       {a₂ b₂ : List ℕ} {r : Got} (us : List Token) → symbols (tokens-behind s (c .at)) ≡ one-byte (code "|") ∷ symbols us
       → LabelsGot s a₁ b₁ a₂ b₂ us K ns bs (c .nodes) (c .uses) node (n + 1) r → LabelsGot s a b a₂ b₂ ts K ns bs k u node n r
   label-more us e (answers.refused z) = answers.refused z
   label-more {a₂} {b₂} us e (answers.past {v} {c = c′} ls z count most y) =
-      let q₀ = label-then {k′ = behind-labels ls (c .nodes)} {u′ = used-labels ls (c .uses)} (raw-labels ls (c .nodes) (c .uses)) {Store = StoredLabels a₂ b₂ ls (c .nodes) (c .uses)} y in
-      let q = rw (p .nodes, p .uses) at q₀ in
-      answers.past {v = v} {c = c′} (label w x ls) (cc (written, e, z)) (omega arith) most q
+      answers.past {v = v} {c = c′} (label w x ls) (cc (written, e, z)) (omega arith) most
+      (entry-then (raw-row w x k u []) (raw-labels ls (behind x k) (used x u)) (behind-more x k) (used-more x u) (omega arith) (omega arith) (omega arith) p (λ q f h o. (stored-same a₁ b₁ a₂ b₂ x k u q f h, o)) (rw (p .nodes, p .uses) at y))
 
   -- `}`
   label-last :

@@ -44,7 +44,8 @@ use Rattle.type_reader.proofs.Signs.{sign-refused, sign-past}
 use Rattle.type_reader.proofs.Standing.{colon, colon-next, signed-counts}
 use Rattle.type_reader.proofs.Messages.{refused-type, past-type, acts-self}
 use Rattle.type_reader.proofs.LabelSteps.{among-words, among-no-words, words-long, words-same, label-leads, label-stuck}
-use Rattle.type_reader.proofs.Frames.{holds-more, holds-one, stored-same}
+use Rattle.type_reader.proofs.Lists.{entry-written}
+use Rattle.type_reader.proofs.Frames.{holds-more, holds-one}
 
 -- a token's spelling is the part of the text that it takes
 pub spelled-part :
@@ -193,30 +194,17 @@ module _ {s : List ℕ} (l : length s ≤ text-most) where
             let from : ℕ = node * room + list-from + n * row in
             let n₃ : t₃ .next .nodes ≡ k₀ = k₃ .nodes ∙ signed-counts k .0 in
             let u₃ : t₃ .next .uses ≡ u₀ = k₃ .uses ∙ signed-counts k .1 in
-            let pn : c₃ .nodes ≡ behind x k₀ = p .nodes ∙ ap (λ w. behind x w) n₃ in
             let more = behind-more x k₀ in
-            let few₂ : behind x k₀ ≤ text-nodes-most = rw pn at few in
+            let few₂ : behind x k₀ ≤ text-nodes-most = rw (p .nodes ∙ ap (λ w. behind x w) n₃) at few in
             let lk : link ≡ raw x k₀ u₀ = rw (n₃, u₃) at p .link in
             let fw = g .few in
-            let kept : Kept a a₁ (k₀ * room) = rw n₃ at p .kept in
-            let one : KeptBut a₁ a₂ from (node * room + room) (behind x k₀ * room) =
-            rw st (row-kept a₁ node n t link (node * room + room) (behind x k₀ * room) (omega arith)) in
             let w = row-at a₁ from (t .at) (t .len) link (omega arith) in
-            record {
-              reached = r;
-              nodes = pn;
-              uses = p .uses ∙ ap (λ w. used x w) u₃;
-              holds =
-                  rw st
-                  (holds-more from (u .at) _ (w .0 ∙ e)
-                  (holds-more (from + 1) (length (u .spelled)) _ (w .1 ∙ f)
-                  (holds-one (from + 1 + 1) (raw x k₀ u₀) (ap (λ q. getD (stored-label a₁ node n t link) q 0) (omega arith) ∙ w .2 ∙ lk))));
-              stored =
-                  stored-same a₁ b₁ a₂ b₁ x k₀ u₀ (rw (n₃, u₃) at p .stored) (record { each = λ q f h. one .each q h (inr (omega arith)) })
-                  (record { each = λ q f h. refl });
-              kept = record { each = λ q f h. one .each q (omega arith) h ∙ kept .each q f };
-              kept-uses = rw u₃ at p .kept-uses;
-            }
+            entry-written x (raw-row u x k₀ u₀ []) n₃ u₃ (omega arith) p r
+            (rw st (row-kept a₁ node n t link (node * room + room) (behind x k₀ * room) (omega arith)))
+            (rw st
+            (holds-more from (u .at) _ (w .0 ∙ e)
+            (holds-more (from + 1) (length (u .spelled)) _ (w .1 ∙ f)
+            (holds-one (from + 1 + 1) (raw x k₀ u₀) (ap (λ q. getD (stored-label a₁ node n t link) q 0) (omega arith) ∙ w .2 ∙ lk)))))
 
         -- the labels so far, with this one
         words-next :

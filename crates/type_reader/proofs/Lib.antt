@@ -13,6 +13,7 @@ pub mod Choices
 pub mod ItemSteps
 pub mod Lists
 pub mod Items
+pub mod ItemTurns
 pub mod LabelSteps
 pub mod Labelled
 pub mod LabelTurns

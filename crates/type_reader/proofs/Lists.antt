@@ -1,16 +1,18 @@
--- A list in brackets: its end, a mark between two entries, and one entry more in front.
+-- A list in brackets: its end, a mark between two entries, an entry that is written, and one entry more in front.
 -- Assumes nothing.
-use mathlib.Core.List.{List, [], _∷_}
-use mathlib.Core.Logic.{_⊎_, inl, inr}
+use mathlib.Core.List.{List, [], _∷_, _++_}
+use mathlib.Core.Logic.{inl, inr}
 use mathlib.Core.Option.{none}
-use mathlib.Core.Path.{_≡_, refl, _∙_}
-use Prim.Native.Nat.{ℕ, _+_, _<_, _≤_}
+use mathlib.Core.Path.{_≡_, refl, ap, _∙_}
+use Prim.Native.Nat.{ℕ, suc, _+_, _*_, _≤_}
 use native.Mathlib.Omega.{arith}
-use lib.ListN.{length, getD, set}
-use lib.Seq.{getD-set-other}
-use Rattle.rules.specs.Tokens.{one-byte, symbols}
+use lib.ListN.{length, getD}
+use Rattle.rules.specs.Tokens.{Token, one-byte, symbols}
+use Rattle.rules.specs.Notation.{Ty}
+use Rattle.rules.specs.Numbering.{behind}
 use Rattle.rules.specs.Refusals.{Begins, nothing-new, entries-after, bracket-closed}
 use Rattle.rules.specs.computed.Reading.{token-fault}
+use Rattle.rules.proofs.Links.{behind-more}
 use Rattle.rules.proofs.Machine.{Stack, on, step}
 use Rattle.rules.proofs.Reached.{Reached}
 use Rattle.rules.proofs.OneToken.{counted, next-symbol, nodes-same, brackets-plain, brackets-shut}
@@ -18,13 +20,15 @@ use Rattle.rules.proofs.TokensBehind.{tokens-behind}
 use Rattle.cursor.specs.Takes.{Takes}
 use Rattle.cursor.specs.declared.Cursor.{Cursor}
 use Rattle.cursor.specs.declared.Taken.{Taken}
-use Rattle.flat.specs.Flat.{KeptBut}
-use Rattle.type_reader.specs.Answers.{TypeRoom, alone, as-item, PastList}
+use Rattle.flat.specs.Flat.{room, used, Holds, Stored, Kept, KeptBut}
+use Rattle.type_reader.specs.Answers.{TypeRoom, alone, as-item, PastType, PastList}
 use Rattle.type_reader.proofs.Took.{took-byte, took-symbols, took-counted, fault-here}
 use Rattle.type_reader.proofs.Signs.{short-token, Plain}
 use Rattle.type_reader.proofs.Begins.{kept-all, names-room}
+use Rattle.type_reader.proofs.Standing.{kept-then}
+use Rattle.type_reader.proofs.Messages.{holds-from}
 use Rattle.type_reader.proofs.ItemSteps.{Closing}
-use Rattle.type_reader.proofs.Frames.{holds-none}
+use Rattle.type_reader.proofs.Frames.{Same, holds-none, holds-more, holds-same, stored-same}
 
 closed-room : {nx : Begins} {es : List (List ℕ)} {bs : List (List (List ℕ))} → TypeRoom nx (es ∷ bs) → (w : List ℕ) → bracket-closed (entries-after nx w (es ∷ bs)) ≡ bs
 closed-room alone w = refl
@@ -77,18 +81,58 @@ list-ended a b k from to r =
       kept-uses = kept-all b _;
     }
 
--- what was written before the rest of a list stays
-pub kept-below : {a b : List ℕ} {from to n : ℕ} → KeptBut a b from to n → (i : ℕ) → i < from → i < n → getD b i 0 ≡ getD a i 0
-kept-below h i l m = h .each i m (inl l)
+-- numbers one behind the other
+holds-then : {a : List ℕ} (i : ℕ) (xs ys : List ℕ) → Holds a i xs → Holds a (i + length xs) ys → Holds a i (xs ++ ys)
+holds-then i [] ys h g = holds-from i g (omega arith)
+holds-then {a} i (v ∷ xs) ys h g =
+    holds-more i v (xs ++ ys) (ap (λ n. getD a n 0) (omega arith) ∙ h .each 0 (omega arith))
+    (holds-then (i + 1) xs ys (record { each = λ j l. ap (λ n. getD a n 0) (omega arith) ∙ h .each (suc j) (omega arith) })
+    (holds-from (i + 1 + length xs) g (omega arith)))
 
--- one number is written, and then what is behind it
-pub one-written :
-    {a b : List ℕ} (from to n v : ℕ) → from < length a → from < to → KeptBut (set a from v) b (from + 1) to n → KeptBut a b from to n
-one-written {a} {b} from to n v l m h = record { each = go }
-  where
-    go : (i : ℕ) → i < n → (i < from) ⊎ (to ≤ i) → getD b i 0 ≡ getD a i 0
-    go i p (inl q) = h .each i p (inl (omega arith)) ∙ getD-set-other a from i v 0 (λ e. omega arith)
-    go i p (inr q) = h .each i p (inr q) ∙ getD-set-other a from i v 0 (λ e. omega arith)
+-- an entry that was read, and the list behind it
+pub entry-then :
+    {s a b a₁ b₁ a₂ b₂ : List ℕ} {J K : Stack} {ns : List (List ℕ)} {bs bs₁ : List (List (List ℕ))} {k u k₁ u₁ k′ u′ from next to : ℕ} (cells more : List ℕ)
+    {One Rest All : Type 0} {c c′ : Cursor} → k ≤ k₁ → u ≤ u₁ → next ≡ from + length cells → next ≤ to → to ≤ k * room
+    → PastList s a b a₁ b₁ J ns bs₁ k u k₁ u₁ from to cells One c
+    → (One → Same a₁ a₂ (k * room) (k₁ * room) → Same b₁ b₂ u u₁ → Rest → All)
+    → PastList s a₁ b₁ a₂ b₂ K ns bs k₁ u₁ k′ u′ next to more Rest c′
+    → PastList s a b a₂ b₂ K ns bs k u k′ u′ from to (cells ++ more) All c′
+entry-then {a₁ = a₁} {a₂ = a₂} {from = from} cells more m n e o q p f z =
+    let stays : Same a₁ a₂ from (from + length cells) = record { each = λ i g h. z .kept .each i (omega arith) (inl (omega arith)) } in
+    record {
+      reached = z .reached;
+      nodes = z .nodes;
+      uses = z .uses;
+      holds =
+          holds-then from cells more (holds-same from cells (p .holds) stays (omega arith) (omega arith)) (holds-from (from + length cells) (z .holds) e);
+      stored =
+          f (p .stored) (record { each = λ i g h. z .kept .each i h (inr (omega arith)) }) (record { each = λ i g h. z .kept-uses .each i h })
+          (z .stored);
+      kept =
+          record {
+            each = λ i g h. z .kept .each i (omega arith) (elim h [ inl l ↦ inl (omega arith) | inr l ↦ inr l ]) ∙ p .kept .each i g h;
+          };
+      kept-uses = kept-then (p .kept-uses) (z .kept-uses) n;
+    }
 
-pub kept-from : {a b : List ℕ} {from to n : ℕ} → KeptBut a b from to n → {i : ℕ} → from ≡ i → KeptBut a b i to n
-kept-from h e = rw (← e) h
+-- an entry whose type was read, and whose numbers were then written
+pub entry-written :
+    {s a b a₁ b₁ a₂ : List ℕ} {t : Taken} {ts : List Token} {K L : Stack} {nx : Begins} {ns : List (List ℕ)} {bs bs₁ : List (List (List ℕ))}
+    {link k u from to : ℕ} {c : Cursor} (x : Ty) (cells : List ℕ) → t .next .nodes ≡ k → t .next .uses ≡ u → to ≤ k * room
+    → PastType s a b a₁ b₁ t ts L nx ns bs₁ x link c → Reached s (tokens-behind s (c .at)) K (counted nothing-new (c .nodes) ns bs)
+    → KeptBut a₁ a₂ from to (behind x k * room) → Holds a₂ from cells
+    → PastList s a b a₂ b₁ K ns bs k u (behind x k) (used x u) from to cells (Stored a₂ b₁ x k u) c
+entry-written {a = a} {b = b} {a₁ = a₁} {b₁ = b₁} {a₂ = a₂} {k = k} {u = u} x cells m n l p r one h =
+    let more = behind-more x k in
+    let kept : Kept a a₁ (k * room) = rw m at p .kept in
+    record {
+      reached = r;
+      nodes = p .nodes ∙ ap (λ w. behind x w) m;
+      uses = p .uses ∙ ap (λ w. used x w) n;
+      holds = h;
+      stored =
+          stored-same a₁ b₁ a₂ b₁ x k u (rw (m, n) at p .stored) (record { each = λ q f g. one .each q g (inr (omega arith)) })
+          (record { each = λ q f g. refl });
+      kept = record { each = λ q f g. one .each q (omega arith) g ∙ kept .each q f };
+      kept-uses = rw n at p .kept-uses;
+    }

@@ -170,9 +170,11 @@ pub sound-stored :
 sound-stored {a = a} {node = node} kind n link {c} f m few r st =
     past {v = node} {c = c} f m (omega arith) (ready-areas r (rw st (head-length a node kind n link)) refl)
 
--- the areas after a number, and a label's row, is written
-pub ready-set : {s a b : List ℕ} {c : Cursor} (i v : ℕ) → Ready s a b c → Ready s (set a i v) b c
-ready-set {a = a} i v r = ready-areas r (length-set a i v) refl
+-- the same after a number, or a label's row, was written
+pub sound-number :
+    {s a b : List ℕ} {from nodes : ℕ} (i v : ℕ) {c : Cursor} → from < c .at → nodes ≤ c .nodes → Ready s a b c
+    → Sound s (set a i v) b from nodes (Past 0 c)
+sound-number {a = a} i v {c} f m r = past {v = 0} {c = c} f m (omega arith) (ready-areas r (length-set a i v) refl)
 
 pub sound-row :
     {s a a′ b : List ℕ} {from nodes : ℕ} (node n : ℕ) (t : Taken) (link : ℕ) {c : Cursor} → from < c .at → nodes ≤ c .nodes → Ready s a b c
@@ -181,7 +183,7 @@ sound-row {a = a} node n t link {c} f m r st =
     past {v = 0} {c = c} f m (omega arith)
     (ready-areas r (rw st (row-length a (node * room + list-from + n * row) (t .at) (t .len) link)) refl)
 
--- the cursor behind a label is the one behind its token
+-- the cursor behind a label, or a sort, is the one behind its token
 pub label-ready : {s a b : List ℕ} {t : Taken} {c : Cursor} → TokenReady s a b t → c ≡ t .next → Ready s a b c
 label-ready r e = rw e (r .ready)
 

@@ -15,7 +15,7 @@ use Rattle.cursor.specs.declared.Cursor.{Cursor}
 use Rattle.cursor.specs.declared.Taken.{Taken}
 use Rattle.flat.specs.Flat.{room, list-from, a-session, message-number, choice-number}
 use Rattle.type_reader.specs.Leaves.{Signed, Opened, Begun, ItemBegun, Labelled, behind-node, stored-head, stored-label}
-use Rattle.type_reader.specs.Answers.{TokenReady, TypeRead, ItemsRead, ItemRead, RestRead, LabelRead, LabelsRead, message-byte, choice-byte}
+use Rattle.type_reader.specs.Answers.{TokenReady, TypeRead, ItemsRead, ItemRead, LabelRead, LabelsRead, message-byte, choice-byte}
 use Rattle.type_reader.specs.declared.Got.{Got}
 use Rattle.type_reader.specs.declared.Got.the-variants.{Past, Refused}
 use Rattle.type_reader.proofs.Messages.{message-full, message-unopened, message-items-refused, message-semicolon-refused, message-type-refused, message-done}
@@ -100,46 +100,32 @@ module _ {s a b : List ℕ} {t : Taken} (deep : ℕ) (r : TokenReady s a b t) {r
 
 -- an item
 module _ {s a b : List ℕ} {t : Taken} (deep node n : ℕ) (r : TokenReady s a b t) {r₁ : Got} (g₁ : ItemBegun t n r₁) where
-  pub item-told₁ : {m p : ℕ} → r₁ ≡ Refused m p → (a′ b′ : List ℕ) (d : Way) → ItemRead s a b a′ b′ d t deep node n r₁
-  item-told₁ e a′ b′ d = rw e (item-refused (r .ready .short) d a b a′ b′ (rw e at g₁))
+  pub item-told₁ : {m p : ℕ} → r₁ ≡ Refused m p → (a′ b′ : List ℕ) → ItemRead s a b a′ b′ t deep node n r₁
+  item-told₁ e a′ b′ = rw e (item-refused (r .ready .short) a b a′ b′ (rw e at g₁))
 
   module _ {v : ℕ} {c₁ : Cursor} (e₁ : r₁ ≡ Past v c₁) (inside : node < t .next .nodes) where
-    sort-now :
-        {closing : ℕ} {a₁ a′ b′ : List ℕ} {r₂ : Got} → v < a-session → a₁ ≡ set a (node * room + list-from + n) v
-        → ((d : Way) → closing ≡ close-byte d → RestRead s a₁ b a′ b′ d c₁ deep node (n + 1) r₂) → (d : Way) → closing ≡ close-byte d
-        → ItemIs t n v → c₁ ≡ t .next → ItemRead s a b a′ b′ d t deep node n r₂
-    sort-now l st g d x (a-type i m e y k) f = absurd (omega arith)
-    sort-now l st g d x (a-sort i m e y w k) f =
-        let h = g d x in
-        item-sort (r .ready .short) d i m e inside (r .ready .few-nodes) (r .ready .room-nodes) (rw (f, st, y) at h)
+    sort-now : v < a-session → {w : ℕ} → ItemIs t n v → c₁ ≡ t .next → ItemRead s a b (set a (node * room + list-from + n) v) b t deep node n (Past w c₁)
+    sort-now l (a-type i m e y k) f = absurd (omega arith)
+    sort-now l (a-sort i m e y w k) f = rw (f, y) (item-sort (r .ready .short) a b i m e inside (r .ready .few-nodes) (r .ready .room-nodes))
 
-    pub item-told₂ :
-        {closing : ℕ} {a₁ a′ b′ : List ℕ} {r₂ : Got} → v < a-session → a₁ ≡ set a (node * room + list-from + n) v
-        → ((d : Way) → closing ≡ close-byte d → RestRead s a₁ b a′ b′ d c₁ deep node (n + 1) r₂) → (d : Way) → closing ≡ close-byte d
-        → ItemRead s a b a′ b′ d t deep node n r₂
-    item-told₂ l st g d x = let i = item-is g₁ e₁ in sort-now l st g d x (i .0) (i .1)
+    pub item-told₂ : v < a-session → {w : ℕ} → ItemRead s a b (set a (node * room + list-from + n) v) b t deep node n (Past w c₁)
+    item-told₂ l = let i = item-is g₁ e₁ in sort-now l (i .0) (i .1)
 
     module _ (l : a-session ≤ v) {a₁ b₁ : List ℕ} {r₂ : Got} (g₂ : TypeRead s a b a₁ b₁ t deep r₂) where
-      no-type : {m p : ℕ} → r₂ ≡ Refused m p → (d : Way) → ItemIs t n v → ItemRead s a b a₁ b₁ d t deep node n r₂
-      no-type e d (a-sort i m f y w k) = absurd (omega arith)
-      no-type e d (a-type i m f y k) = rw e (item-type-refused (r .ready .short) d a₁ b₁ (rw e at g₂) m f)
+      no-type : {m p : ℕ} → r₂ ≡ Refused m p → ItemIs t n v → ItemRead s a b a₁ b₁ t deep node n r₂
+      no-type e (a-sort i m f y w k) = absurd (omega arith)
+      no-type e (a-type i m f y k) = rw e (item-type-refused (r .ready .short) m f (rw e at g₂))
 
-      pub item-told₃ : {m p : ℕ} → r₂ ≡ Refused m p → (d : Way) → ItemRead s a b a₁ b₁ d t deep node n r₂
-      item-told₃ e d = no-type e d (item-is g₁ e₁ .0)
+      pub item-told₃ : {m p : ℕ} → r₂ ≡ Refused m p → ItemRead s a b a₁ b₁ t deep node n r₂
+      item-told₃ e = no-type e (item-is g₁ e₁ .0)
 
       module _ {link : ℕ} {c₂ : Cursor} (e₂ : r₂ ≡ Past link c₂) (few : c₂ .nodes ≤ text-nodes-most) (long : length a₁ ≡ text-most) where
-        type-now :
-            {closing : ℕ} {a₂ a₃ b₃ : List ℕ} {r₃ : Got} → a₂ ≡ set a₁ (node * room + list-from + n) (a-session + link)
-            → ((d : Way) → closing ≡ close-byte d → RestRead s a₂ b₁ a₃ b₃ d c₂ deep node (n + 1) r₃) → (d : Way) → closing ≡ close-byte d
-            → ItemIs t n v → ItemRead s a b a₃ b₃ d t deep node n r₃
-        type-now st g d x (a-sort i m e y w k) = absurd (omega arith)
-        type-now st g d x (a-type i m e y k) = let h = g d x in item-type (r .ready .short) d (rw e₂ at g₂) m e inside few long (rw st at h)
+        type-now : {w : ℕ} → ItemIs t n v → ItemRead s a b (set a₁ (node * room + list-from + n) (a-session + link)) b₁ t deep node n (Past w c₂)
+        type-now (a-sort i m e y w k) = absurd (omega arith)
+        type-now (a-type i m e y k) = item-type (r .ready .short) m e inside few long (rw e₂ at g₂)
 
-        pub item-told₄ :
-            {closing : ℕ} {a₂ a₃ b₃ : List ℕ} {r₃ : Got} → a₂ ≡ set a₁ (node * room + list-from + n) (a-session + link)
-            → ((d : Way) → closing ≡ close-byte d → RestRead s a₂ b₁ a₃ b₃ d c₂ deep node (n + 1) r₃) → (d : Way) → closing ≡ close-byte d
-            → ItemRead s a b a₃ b₃ d t deep node n r₃
-        item-told₄ st g d x = type-now st g d x (item-is g₁ e₁ .0)
+        pub item-told₄ : {w : ℕ} → ItemRead s a b (set a₁ (node * room + list-from + n) (a-session + link)) b₁ t deep node n (Past w c₂)
+        item-told₄ = type-now (item-is g₁ e₁ .0)
 
 -- a label
 module _ {s a b : List ℕ} {t : Taken} (deep node n : ℕ) (r : TokenReady s a b t) {r₁ : Got} (g₁ : Labelled s a (node * room + list-from) t n r₁) where

@@ -7,8 +7,8 @@ use mathlib.Core.Path.{_≡_}
 use Prim.Native.Char.{code}
 use Prim.Native.Nat.{ℕ, suc, _+_, _*_, _<_, _≤_}
 use lib.ListN.{length}
-use Rattle.rules.specs.Tokens.{Token, Symbol, word, symbol, symbols}
-use Rattle.rules.specs.Notation.{Way, into, out, Ty, Items, Labels, label, sign, parted, write-type, write-items, write-labels}
+use Rattle.rules.specs.Tokens.{Token, Symbol, word, reserved-word, symbol, symbols}
+use Rattle.rules.specs.Notation.{Way, into, out, Ty, Items, Labels, label, sign, sort-position, write-type, write-items, write-labels}
 use Rattle.rules.specs.Numbers.{text-most, text-nodes-most, labels-most, items-most}
 use Rattle.rules.specs.Numbering.{behind, behind-items, behind-labels}
 use Rattle.rules.specs.Refusals.{Begins, a-label, an-item, nothing-new, innermost, entries-after}
@@ -20,7 +20,8 @@ use Rattle.rules.proofs.TokensBehind.{tokens-behind}
 use Rattle.cursor.specs.Takes.{Ahead, end-kind}
 use Rattle.cursor.specs.declared.Cursor.{Cursor}
 use Rattle.cursor.specs.declared.Taken.{Taken}
-use Rattle.flat.specs.Flat.{room, list-from, row, a-use, used, used-items, used-labels, raw, raw-row, raw-items, raw-labels, items-long, labels-long, Holds, Stored, StoredItems, StoredLabels, Kept, KeptBut, words-of}
+use Rattle.flat.specs.Flat.{room, list-from, row, a-use, a-session, sort-number, used, used-items, used-labels, raw, raw-row, raw-items, raw-labels, items-long, labels-long, Holds, Stored, StoredItems, StoredLabels, Kept, KeptBut, words-of}
+use Rattle.table.specs.declared.Sort.{Sort}
 use Rattle.type_reader.specs.declared.Got.{Got}
 use Rattle.type_reader.specs.declared.Got.the-variants.{Past, Refused}
 
@@ -98,33 +99,43 @@ module _ (s a b a′ b′ : List ℕ) where
       PastList K ns bs k u (behind-items xs k) (used-items xs u) (node * room + list-from + n) (node * room + room) (raw-items xs k u)
       (StoredItems a′ b′ xs k u) c
 
-  -- the tokens ts are the items xs, and what closes them; behind an item they begin with a comma if there are any
+  -- the tokens that were read are the items xs, and what closes them
   pub data ItemsGot (Wrote : Items → List Symbol → Type 0) (K : Stack) (ns : List (List ℕ)) (bs : List (List (List ℕ))) (k u node n : ℕ) : Got → Type 0 where
     refused : {m p : ℕ} → Refuses s m p → ItemsGot Wrote K ns bs k u node n (Refused m p)
     past :
         {v : ℕ} {c : Cursor} (xs : Items) → Wrote xs (symbols (tokens-behind s (c .at))) → v ≡ n + items-long xs → v ≤ items-most
         → PastItems K ns bs k u node n xs c → ItemsGot Wrote K ns bs k u node n (Past v c)
 
+  -- the items of the node, behind its opening bracket
   pub record ItemsRead (d : Way) (c : Cursor) (deep node : ℕ) (r : Got) : Type 0 where
     pub told :
         (K : Stack) (ns : List (List ℕ)) (bs : List (List (List ℕ)))
         → Reached s (tokens-behind s (c .at)) (expect.some-items d ∷ K) (counted an-item (c .nodes) ns ([] ∷ bs)) → suc (length bs) ≡ deep
         → ItemsGot (λ xs k. symbols (tokens-behind s (c .at)) ≡ write-items d xs k) K ns bs (c .nodes) (c .uses) node 0 r
 
-  pub record ItemRead (d : Way) (t : Taken) (deep node n : ℕ) (r : Got) : Type 0 where
+  -- one item, the first of the tokens ts: its number `cell` stands behind n others, and those behind it may follow
+  abbrev pub PastItem : Way → List Token → Stack → List (List ℕ) → List (List ℕ) → List (List (List ℕ)) → ℕ → ℕ → ℕ → ℕ → ℕ → ℕ → ℕ → Type 0 → Cursor → Type 0
+  PastItem d ts K ns es bs k u node n k′ u′ cell Store c =
+      PastList (expect.more-items d ∷ K) ns ((first-spelled ts ∷ es) ∷ bs) k u k′ u′ (node * room + list-from + n) (node * room + room) (cell ∷ [])
+      Store c
+
+  pub data ItemGot (d : Way) (ts : List Token) (K : Stack) (ns es : List (List ℕ)) (bs : List (List (List ℕ))) (k u node n : ℕ) : Got → Type 0 where
+    refused : {m p : ℕ} → Refuses s m p → ItemGot d ts K ns es bs k u node n (Refused m p)
+    past-sort :
+        {v : ℕ} {c : Cursor} (y : Sort) → symbols ts ≡ reserved-word (sort-position y) ∷ symbols (tokens-behind s (c .at))
+        → PastItem d ts K ns es bs k u node n k u (sort-number y) (Unit {0}) c → ItemGot d ts K ns es bs k u node n (Past v c)
+    past-session :
+        {v : ℕ} {c : Cursor} (x : Ty) → symbols ts ≡ write-type x (symbols (tokens-behind s (c .at)))
+        → PastItem d ts K ns es bs k u node n (behind x k) (used x u) (a-session + raw x k u) (Stored a′ b′ x k u) c
+        → ItemGot d ts K ns es bs k u node n (Past v c)
+
+  pub record ItemRead (t : Taken) (deep node n : ℕ) (r : Got) : Type 0 where
+    pub few : {v : ℕ} {c : Cursor} → r ≡ Past v c → n < items-most
     pub told :
-        (ts : List Token) (e : Expect) (J K : Stack) (ns es : List (List ℕ)) (bs : List (List (List ℕ)))
+        (d : Way) (ts : List Token) (e : Expect) (J K : Stack) (ns es : List (List ℕ)) (bs : List (List (List ℕ)))
         → Ahead s t ts → Acts (e ∷ J) (expect.an-item d ∷ K) ts
         → Reached s ts (e ∷ J) (counted an-item (t .next .nodes) ns (es ∷ bs)) → length es ≡ n → suc (length bs) ≡ deep
-        → ItemsGot (λ xs k. (symbols ts ≡ write-items d xs k) × ((l : List Symbol) → parted xs l ≡ sign "," ∷ l)) K ns bs (t .next .nodes)
-        (t .next .uses) node n r
-
-  pub record RestRead (d : Way) (c : Cursor) (deep node n : ℕ) (r : Got) : Type 0 where
-    pub told :
-        (K : Stack) (ns es : List (List ℕ)) (bs : List (List (List ℕ)))
-        → Reached s (tokens-behind s (c .at)) (expect.more-items d ∷ K) (counted nothing-new (c .nodes) ns (es ∷ bs)) → length es ≡ n
-        → suc (length bs) ≡ deep
-        → ItemsGot (λ xs k. symbols (tokens-behind s (c .at)) ≡ parted xs (write-items d xs k)) K ns bs (c .nodes) (c .uses) node n r
+        → ItemGot d ts K ns es bs (t .next .nodes) (t .next .uses) node n r
 
   abbrev pub PastLabels : Stack → List (List ℕ) → List (List (List ℕ)) → ℕ → ℕ → ℕ → ℕ → Labels → Cursor → Type 0
   PastLabels K ns bs k u node n ls c =

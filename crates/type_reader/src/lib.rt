@@ -29,12 +29,12 @@ ghost use lib.Dec.{ltb};
 ghost use lib.ListN.{length};
 ghost use Rattle.rules.specs.Words.{word-most};
 ghost use Rattle.rules.specs.Notation.{Way};
-ghost use Rattle.rules.specs.Numbers.{text-most, text-nodes-most, labels-most, items-most, brackets-most};
+ghost use Rattle.rules.specs.Numbers.{text-most, text-nodes-most, labels-most, brackets-most};
 ghost use Rattle.rules.proofs.Machine.{open-byte, close-byte};
 ghost use Rattle.cursor.specs.Takes.{reserved-kind};
 ghost use Rattle.flat.specs.Flat.{room, list-from, message-number, choice-number};
 ghost use Rattle.type_reader.specs.Leaves.{Signed, Opened, Begun, Used, Ended, begins-type, begins-item, is-sort, ItemBegun, Labelled, stored-head, stored-label};
-ghost use Rattle.type_reader.specs.Answers.{Ready, TokenReady, Sound, TypeRead, ItemsRead, ItemRead, RestRead, LabelRead, LabelsRead, message-byte, choice-byte};
+ghost use Rattle.type_reader.specs.Answers.{Ready, TokenReady, Sound, TypeRead, ItemsRead, ItemRead, LabelRead, LabelsRead, message-byte, choice-byte};
 
 // "64 nodes in a text", "16 brackets `(`, `[`, `{` open at once"
 pub const TEXT_NODES_MOST: usize = 64;
@@ -417,7 +417,8 @@ fn read_message(
     }
 }
 
-// The items of a node, behind its opening bracket.
+// The items of a node, behind its opening bracket; the value is their count. They are read in a loop, so that only types inside types take
+// stack.
 fn read_items(
     s: &[u8],
     nodes: &mut [u16; TEXT_MOST],
@@ -431,15 +432,37 @@ fn read_items(
     ensures { λ r. ⌜ Sound (now (s .entry)) (now (nodes .exit)) (now (uses .exit)) (c .at) (c .nodes) r ⌝ }
     ensures { λ r. ⌜ ((d : Way) → closing ≡ close-byte d → ItemsRead (now (s .entry)) (now (nodes .entry)) (now (uses .entry)) (now (nodes .exit)) (now (uses .exit)) d c deep node r) ⌝ }
 {
-    let t = c.take(s);
+    let mut t = c.take(s);
     if t.kind == closing {
         let next = t.next;
         return Got::Past { value: 0, next };
     }
-    read_item(s, nodes, uses, t, deep, node, closing, 0)
+    let mut n = 0;
+    loop {
+        let r1 = read_item(s, nodes, uses, t, deep, node, n);
+        let Got::Past { value: _, next: c1 } = r1 else {
+            return r1;
+        };
+        n += 1;
+        let mark = c1.take(s);
+        let next = mark.next;
+        if mark.kind == closing {
+            return Got::Past {
+                value: n as u16,
+                next,
+            };
+        }
+        if mark.kind != COMMA {
+            return Got::Refused {
+                number: UNEXPECTED,
+                place: mark.at,
+            };
+        }
+        t = next.take(s);
+    }
 }
 
-// The item whose first token is t, behind n others, and those behind it.
+// The item whose first token is t, behind n others of its node.
 fn read_item(
     s: &[u8],
     nodes: &mut [u16; TEXT_MOST],
@@ -447,12 +470,11 @@ fn read_item(
     t: Taken,
     deep: usize,
     node: usize,
-    closing: u16,
     n: usize,
 ) -> Got
-    requires { ⌜ TokenReady (now s) (now nodes) (now uses) t × (deep ≤ brackets-most) × (node < t .next .nodes) × (closing < reserved-kind) ⌝ }
+    requires { ⌜ TokenReady (now s) (now nodes) (now uses) t × (deep ≤ brackets-most) × (node < t .next .nodes) ⌝ }
     ensures { λ r. ⌜ Sound (now (s .entry)) (now (nodes .exit)) (now (uses .exit)) (t .at) (t .next .nodes) r ⌝ }
-    ensures { λ r. ⌜ ((d : Way) → closing ≡ close-byte d → ItemRead (now (s .entry)) (now (nodes .entry)) (now (uses .entry)) (now (nodes .exit)) (now (uses .exit)) d t deep node n r) ⌝ }
+    ensures { λ r. ⌜ ItemRead (now (s .entry)) (now (nodes .entry)) (now (uses .entry)) (now (nodes .exit)) (now (uses .exit)) t deep node n r ⌝ }
 {
     let r1 = item(t, n);
     let Got::Past {
@@ -462,9 +484,10 @@ fn read_item(
     else {
         return r1;
     };
+    let at = node * NODE_ROOM + LIST + n;
     if sort < A_SESSION {
-        nodes[node * NODE_ROOM + LIST + n] = sort;
-        return read_rest(s, nodes, uses, c1, deep, node, closing, n + 1);
+        nodes[at] = sort;
+        return Got::Past { value: 0, next: c1 };
     }
     let r2 = read_type(s, nodes, uses, t, deep);
     let Got::Past {
@@ -474,40 +497,8 @@ fn read_item(
     else {
         return r2;
     };
-    nodes[node * NODE_ROOM + LIST + n] = A_SESSION + link;
-    read_rest(s, nodes, uses, c2, deep, node, closing, n + 1)
-}
-
-// Behind n items: a comma and a further one, or the closing bracket.
-fn read_rest(
-    s: &[u8],
-    nodes: &mut [u16; TEXT_MOST],
-    uses: &mut [u16; TEXT_MOST],
-    c: Cursor,
-    deep: usize,
-    node: usize,
-    closing: u16,
-    n: usize,
-) -> Got
-    requires { ⌜ Ready (now s) (now nodes) (now uses) c × (deep ≤ brackets-most) × (node < c .nodes) × (n ≤ items-most) × (closing < reserved-kind) ⌝ }
-    ensures { λ r. ⌜ Sound (now (s .entry)) (now (nodes .exit)) (now (uses .exit)) (c .at) (c .nodes) r ⌝ }
-    ensures { λ r. ⌜ ((d : Way) → closing ≡ close-byte d → RestRead (now (s .entry)) (now (nodes .entry)) (now (uses .entry)) (now (nodes .exit)) (now (uses .exit)) d c deep node n r) ⌝ }
-{
-    let t = c.take(s);
-    let next = t.next;
-    if t.kind == closing {
-        return Got::Past {
-            value: n as u16,
-            next,
-        };
-    }
-    if t.kind == COMMA {
-        return read_item(s, nodes, uses, next.take(s), deep, node, closing, n);
-    }
-    Got::Refused {
-        number: UNEXPECTED,
-        place: t.at,
-    }
+    nodes[at] = A_SESSION + link;
+    Got::Past { value: 0, next: c2 }
 }
 
 // The choice whose sign is t.

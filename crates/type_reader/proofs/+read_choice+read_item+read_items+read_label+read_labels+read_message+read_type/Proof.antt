@@ -2,45 +2,41 @@
 -- the laws that it cites). The bytes left of the text fall at every call.
 -- Assumes nothing.
 use borrow.Author.Needs.{needs}
-use mathlib.Core.Path.{_≡_, refl, sym, ap, _∙_}
+use mathlib.Core.Path.{refl}
 use native.Mathlib.Omega.{arith}
 use lib.ListN.{length}
 use Rattle.rules.specs.Notation.{into, out}
-use Rattle.cursor.specs.declared.Cursor.{Cursor}
 use Rattle.type_reader.specs.Answers.{refused}
 use Rattle.type_reader.proofs.Begins.{type-name, type-end, type-none}
-use Rattle.type_reader.proofs.Items.{items-none, items-some, rest-none, rest-some, rest-other}
+use Rattle.type_reader.proofs.ItemTurns as items
 use Rattle.type_reader.proofs.Labelled.{fresh-label}
-use Rattle.type_reader.proofs.LabelTurns.{Turning, turn-first, turn-refused, turn-closed, turn-other, turn-next}
-use Rattle.type_reader.proofs.Safe.{ready-set, take-ready, token-long, onward-taken, signed-onward, opened-onward, begun-ready, sound-past, sound-refused, sound-on, sound-used, sound-ended, sound-step, sound-stored, sound-row, item-is, item-few, item-known, label-ready, label-inside, label-places}
+use Rattle.type_reader.proofs.LabelTurns as labels
+use Rattle.type_reader.proofs.Safe.{take-ready, token-long, onward-taken, signed-onward, opened-onward, begun-ready, sound-past, sound-refused, sound-on, sound-used, sound-ended, sound-step, sound-stored, sound-row, sound-number, item-is, item-few, item-known, label-ready, label-inside, label-places}
 use Rattle.type_reader.proofs.Told.{message-told₁, message-told₂, message-told₃, message-told₄, message-told₅, message-told₆, choice-told₁, choice-told₂, choice-told₃, choice-told₄, item-told₁, item-told₂, item-told₃, item-told₄, label-told₁, label-told₂, label-told₃, label-told₄}
 use Prim.Native.Nat.{ℕ, _<_, _+_, _-_, _*_}
 use borrow.Fn.Kinds.{In}
 use borrow.Fn.PlainCycle.{Measures, is, falls, and}
 use Rattle.type_reader.proofs.read_choice.Reads as read-choice
 use Rattle.type_reader.proofs.read_choice.Kinds as read-choice-kinds
-use Rattle.type_reader.proofs.+read_choice+read_item+read_items+read_label+read_labels+read_message+read_rest+read_type.Lts-read_choice as read-choice-lts
+use Rattle.type_reader.proofs.+read_choice+read_item+read_items+read_label+read_labels+read_message+read_type.Lts-read_choice as read-choice-lts
 use Rattle.type_reader.proofs.read_item.Reads as read-item
 use Rattle.type_reader.proofs.read_item.Kinds as read-item-kinds
-use Rattle.type_reader.proofs.+read_choice+read_item+read_items+read_label+read_labels+read_message+read_rest+read_type.Lts-read_item as read-item-lts
+use Rattle.type_reader.proofs.+read_choice+read_item+read_items+read_label+read_labels+read_message+read_type.Lts-read_item as read-item-lts
 use Rattle.type_reader.proofs.read_items.Reads as read-items
 use Rattle.type_reader.proofs.read_items.Kinds as read-items-kinds
-use Rattle.type_reader.proofs.+read_choice+read_item+read_items+read_label+read_labels+read_message+read_rest+read_type.Lts-read_items as read-items-lts
+use Rattle.type_reader.proofs.+read_choice+read_item+read_items+read_label+read_labels+read_message+read_type.Lts-read_items as read-items-lts
 use Rattle.type_reader.proofs.read_label.Reads as read-label
 use Rattle.type_reader.proofs.read_label.Kinds as read-label-kinds
-use Rattle.type_reader.proofs.+read_choice+read_item+read_items+read_label+read_labels+read_message+read_rest+read_type.Lts-read_label as read-label-lts
+use Rattle.type_reader.proofs.+read_choice+read_item+read_items+read_label+read_labels+read_message+read_type.Lts-read_label as read-label-lts
 use Rattle.type_reader.proofs.read_labels.Reads as read-labels
 use Rattle.type_reader.proofs.read_labels.Kinds as read-labels-kinds
-use Rattle.type_reader.proofs.+read_choice+read_item+read_items+read_label+read_labels+read_message+read_rest+read_type.Lts-read_labels as read-labels-lts
+use Rattle.type_reader.proofs.+read_choice+read_item+read_items+read_label+read_labels+read_message+read_type.Lts-read_labels as read-labels-lts
 use Rattle.type_reader.proofs.read_message.Reads as read-message
 use Rattle.type_reader.proofs.read_message.Kinds as read-message-kinds
-use Rattle.type_reader.proofs.+read_choice+read_item+read_items+read_label+read_labels+read_message+read_rest+read_type.Lts-read_message as read-message-lts
-use Rattle.type_reader.proofs.read_rest.Reads as read-rest
-use Rattle.type_reader.proofs.read_rest.Kinds as read-rest-kinds
-use Rattle.type_reader.proofs.+read_choice+read_item+read_items+read_label+read_labels+read_message+read_rest+read_type.Lts-read_rest as read-rest-lts
+use Rattle.type_reader.proofs.+read_choice+read_item+read_items+read_label+read_labels+read_message+read_type.Lts-read_message as read-message-lts
 use Rattle.type_reader.proofs.read_type.Reads as read-type
 use Rattle.type_reader.proofs.read_type.Kinds as read-type-kinds
-use Rattle.type_reader.proofs.+read_choice+read_item+read_items+read_label+read_labels+read_message+read_rest+read_type.Lts-read_type as read-type-lts
+use Rattle.type_reader.proofs.+read_choice+read_item+read_items+read_label+read_labels+read_message+read_type.Lts-read_type as read-type-lts
 use Rattle.cursor.proofs.Cursor.take.Reads as take-reads
 use Rattle.type_reader.proofs.begin_node.Reads as begin-node-reads
 use Rattle.type_reader.proofs.bracket.Reads as bracket-reads
@@ -51,10 +47,10 @@ use Rattle.type_reader.proofs.sign.Reads as sign-reads
 use Rattle.type_reader.proofs.store.Reads as store-reads
 use Rattle.type_reader.proofs.store_label.Reads as store-label-reads
 use Rattle.type_reader.proofs.use_name.Reads as use-name-reads
-use Rattle.type_reader.proofs.+read_choice+read_item+read_items+read_label+read_labels+read_message+read_rest+read_type.{
+use Rattle.type_reader.proofs.+read_choice+read_item+read_items+read_label+read_labels+read_message+read_type.{
   statement,
 }
-use Rattle.type_reader.proofs.+read_choice+read_item+read_items+read_label+read_labels+read_message+read_rest+read_type.Tie.{
+use Rattle.type_reader.proofs.+read_choice+read_item+read_items+read_label+read_labels+read_message+read_type.Tie.{
   close,
 }
 
@@ -75,9 +71,6 @@ abbrev μ-read-labels : Measures 3 read-labels-kinds.ps ℕ
 
 abbrev μ-read-message : Measures 3 read-message-kinds.ps ℕ
 μ-read-message κs a = 4 * (length (a .0 .now) - a .1 .1 .1 .0 .at)
-
-abbrev μ-read-rest : Measures 3 read-rest-kinds.ps ℕ
-μ-read-rest κs a = 4 * (length (a .0 .now) - a .1 .1 .1 .0 .at) + 3
 
 abbrev μ-read-type : Measures 3 read-type-kinds.ps ℕ
 μ-read-type κs a = 4 * (length (a .0 .now) - a .1 .1 .1 .0 .at) + 1
@@ -133,13 +126,6 @@ read-message-below t =
     (falls 3 read-message-kinds.ps _<_ μ-read-message t)
     read-message.Pre
 
-abbrev read-rest-at : ℕ → In 3 read-rest-kinds.ps
-read-rest-at t = and 3 read-rest-kinds.ps (is 3 read-rest-kinds.ps μ-read-rest t) read-rest.Pre
-
-abbrev read-rest-below : ℕ → In 3 read-rest-kinds.ps
-read-rest-below t =
-    and 3 read-rest-kinds.ps (falls 3 read-rest-kinds.ps _<_ μ-read-rest t) read-rest.Pre
-
 abbrev read-type-at : ℕ → In 3 read-type-kinds.ps
 read-type-at t = and 3 read-type-kinds.ps (is 3 read-type-kinds.ps μ-read-type t) read-type.Pre
 
@@ -151,7 +137,7 @@ abbrev read-choice-env : ℕ → read-choice-lts.Claims
 read-choice-env t = (begin-node-reads.Asked, begin-node-reads.Learnt, bracket-reads.Asked, bracket-reads.Learnt, read-labels-below t, read-labels.Post, store-reads.Asked, store-reads.Learnt)
 
 abbrev read-item-env : ℕ → read-item-lts.Claims
-read-item-env t = (item-reads.Asked, item-reads.Learnt, read-rest-below t, read-rest.Post, read-type-below t, read-type.Post)
+read-item-env t = (item-reads.Asked, item-reads.Learnt, read-type-below t, read-type.Post)
 
 abbrev read-items-env : ℕ → read-items-lts.Claims
 read-items-env t = (take-reads.Asked, take-reads.Learnt, read-item-below t, read-item.Post)
@@ -164,9 +150,6 @@ read-labels-env t = (take-reads.Asked, take-reads.Learnt, read-label-below t, re
 
 abbrev read-message-env : ℕ → read-message-lts.Claims
 read-message-env t = (begin-node-reads.Asked, begin-node-reads.Learnt, bracket-reads.Asked, bracket-reads.Learnt, read-items-below t, read-items.Post, sign-reads.Asked, sign-reads.Learnt, take-reads.Asked, take-reads.Learnt, read-type-below t, read-type.Post, store-reads.Asked, store-reads.Learnt)
-
-abbrev read-rest-env : ℕ → read-rest-lts.Claims
-read-rest-env t = (take-reads.Asked, take-reads.Learnt, read-item-below t, read-item.Post)
 
 abbrev read-type-env : ℕ → read-type-lts.Claims
 read-type-env t = (use-name-reads.Asked, use-name-reads.Learnt, read-end-reads.Asked, read-end-reads.Learnt, read-message-below t, read-message.Post, read-choice-below t, read-choice.Post)
@@ -229,31 +212,25 @@ read-item-enum-told : (t : ℕ) → read-item-lts.Need-enum-told (read-item-env 
 read-item-enum-told t c = search needs
 
 read-item-returns : (t : ℕ) → read-item-lts.Need-returns (read-item-env t) (read-item-at t) read-item.Post
-read-item-returns t c = (sound-refused (c .enum-told .given .1), λ d x. item-told₁ _ _ _ (c .before .before .before .before .pre .1 .0) (c .before .before .item .ensures) (c .enum-told .given .1) _ _ d)
+read-item-returns t c = (sound-refused (c .enum-told .given .1), item-told₁ _ _ _ (c .before .before .before .before .pre .1 .0) (c .before .before .item .ensures) (c .enum-told .given .1) _ _)
+
+read-item-mul-at : (t : ℕ) → read-item-lts.Need-mul-at (read-item-env t) (read-item-at t) read-item.Post
+read-item-mul-at t c = omega (arith, (c .before .before .before .before .before .pre .1 .2), (c .before .before .before .before .before .pre .1 .0) .ready .few-nodes, item-few ((item-is (c .before .before .before .item .ensures) (c .before .r1 .given .1)) .0))
+
+read-item-add-at : (t : ℕ) → read-item-lts.Need-add-at (read-item-env t) (read-item-at t) read-item.Post
+read-item-add-at t c = omega (arith, (c .before .before .before .before .before .pre .1 .2), (c .before .before .before .before .before .pre .1 .0) .ready .few-nodes, item-few ((item-is (c .before .before .before .item .ensures) (c .before .r1 .given .1)) .0))
+
+read-item-add-at-2 : (t : ℕ) → read-item-lts.Need-add-at-2 (read-item-env t) (read-item-at t) read-item.Post
+read-item-add-at-2 t c = omega (arith, (c .before .before .before .before .before .pre .1 .2), (c .before .before .before .before .before .pre .1 .0) .ready .few-nodes, item-few ((item-is (c .before .before .before .item .ensures) (c .before .r1 .given .1)) .0))
 
 read-item-mul-nodes : (t : ℕ) → read-item-lts.Need-mul-nodes (read-item-env t) (read-item-at t) read-item.Post
 read-item-mul-nodes t c = omega (arith, (c .before .before .before .before .before .before .pre .1 .2), (c .before .before .before .before .before .before .pre .1 .0) .ready .few-nodes, item-few ((item-is (c .before .before .before .before .item .ensures) (c .before .before .r1 .given .1)) .0))
 
-read-item-add-nodes : (t : ℕ) → read-item-lts.Need-add-nodes (read-item-env t) (read-item-at t) read-item.Post
-read-item-add-nodes t c = omega (arith, (c .before .before .before .before .before .before .pre .1 .2), (c .before .before .before .before .before .before .pre .1 .0) .ready .few-nodes, item-few ((item-is (c .before .before .before .before .item .ensures) (c .before .before .r1 .given .1)) .0))
-
-read-item-add-nodes-2 : (t : ℕ) → read-item-lts.Need-add-nodes-2 (read-item-env t) (read-item-at t) read-item.Post
-read-item-add-nodes-2 t c = omega (arith, (c .before .before .before .before .before .before .pre .1 .2), (c .before .before .before .before .before .before .pre .1 .0) .ready .few-nodes, item-few ((item-is (c .before .before .before .before .item .ensures) (c .before .before .r1 .given .1)) .0))
-
-read-item-mul-nodes-2 : (t : ℕ) → read-item-lts.Need-mul-nodes-2 (read-item-env t) (read-item-at t) read-item.Post
-read-item-mul-nodes-2 t c = omega (arith, (c .before .before .before .before .before .before .pre .1 .2), (c .before .before .before .before .before .before .pre .1 .0) .ready .few-nodes, item-few ((item-is (c .before .before .before .before .item .ensures) (c .before .before .r1 .given .1)) .0))
-
 read-item-element-write-nodes : (t : ℕ) → read-item-lts.Need-element-write-nodes (read-item-env t) (read-item-at t) read-item.Post
 read-item-element-write-nodes t c = omega (arith, (c .before .before .before .before .before .before .pre .1 .2), (c .before .before .before .before .before .before .pre .1 .0) .ready .few-nodes, item-few ((item-is (c .before .before .before .before .item .ensures) (c .before .before .r1 .given .1)) .0), (c .before .before .before .before .before .before .pre .1 .0) .ready .room-nodes)
 
-read-item-add-read-rest : (t : ℕ) → read-item-lts.Need-add-read-rest (read-item-env t) (read-item-at t) read-item.Post
-read-item-add-read-rest t c = omega (arith, (c .before .before .before .before .before .before .before .before .pre .1 .2), (c .before .before .before .before .before .before .before .before .pre .1 .0) .ready .few-nodes, item-few ((item-is (c .before .before .before .before .before .before .item .ensures) (c .before .before .before .before .r1 .given .1)) .0))
-
-read-item-read-rest-requires : (t : ℕ) → read-item-lts.Need-read-rest-requires (read-item-env t) (read-item-at t) read-item.Post
-read-item-read-rest-requires t c κs = let i = (item-is (c .before .before .before .before .before .before .item .ensures) (c .before .before .before .before .r1 .given .1)) in let l = token-long (c .before .before .before .before .before .before .before .before .pre .1 .0) refl (item-known (i .0)) in let e : (c .before .before .before .before .r1 .given .0 .1 .0) .at ≡ c .before .before .before .before .before .before .before .before .args .t .next .at = ap (λ (c : Cursor). c .at) (i .1) in (omega (arith, c .before .before .before .before .before .before .before .before .pre .0, e, l, (c .before .before .before .before .before .before .before .before .pre .1 .0) .order, (c .before .before .before .before .before .before .before .before .pre .1 .0) .ready .inside), (rw (i .1) (ready-set _ _ ((c .before .before .before .before .before .before .before .before .pre .1 .0) .ready)), (c .before .before .before .before .before .before .before .before .pre .1 .1), rw (i .1) (c .before .before .before .before .before .before .before .before .pre .1 .2), omega (arith, (c .before .before .before .before .before .before .before .before .pre .1 .2), (c .before .before .before .before .before .before .before .before .pre .1 .0) .ready .few-nodes, item-few ((item-is (c .before .before .before .before .before .before .item .ensures) (c .before .before .before .before .r1 .given .1)) .0)), (c .before .before .before .before .before .before .before .before .pre .1 .3)))
-
 read-item-returns-2 : (t : ℕ) → read-item-lts.Need-returns-2 (read-item-env t) (read-item-at t) read-item.Post
-read-item-returns-2 t c = let i = (item-is (c .before .before .before .before .before .before .before .item .ensures) (c .before .before .before .before .before .r1 .given .1)) in let e : (c .before .before .before .before .before .r1 .given .0 .1 .0) .at ≡ c .before .before .before .before .before .before .before .before .before .args .t .next .at = ap (λ (c : Cursor). c .at) (i .1) in let f : (c .before .before .before .before .before .r1 .given .0 .1 .0) .nodes ≡ c .before .before .before .before .before .before .before .before .before .args .t .next .nodes = ap (λ (c : Cursor). c .nodes) (i .1) in (sound-on (c .read-rest .ensures .0) (omega (arith, e, (c .before .before .before .before .before .before .before .before .before .pre .1 .0) .order)) (omega (arith, f)), λ d x. item-told₂ _ _ _ (c .before .before .before .before .before .before .before .before .before .pre .1 .0) (c .before .before .before .before .before .before .before .item .ensures) (c .before .before .before .before .before .r1 .given .1) (c .before .before .before .before .before .before .before .before .before .pre .1 .2) (c .before .before .before .if1 .taken) refl (c .read-rest .ensures .1) d x)
+read-item-returns-2 t c = let i = (item-is (c .before .before .before .before .item .ensures) (c .before .before .r1 .given .1)) in let e = label-places (i .1) in (sound-number _ _ (omega (arith, e .0, token-long (c .before .before .before .before .before .before .pre .1 .0) refl (item-known (i .0)), (c .before .before .before .before .before .before .pre .1 .0) .order)) (omega (arith, e .1)) (label-ready (c .before .before .before .before .before .before .pre .1 .0) (i .1)), item-told₂ _ _ _ (c .before .before .before .before .before .before .pre .1 .0) (c .before .before .before .before .item .ensures) (c .before .before .r1 .given .1) (c .before .before .before .before .before .before .pre .1 .2) (c .if1 .taken))
 
 read-item-read-type-requires : (t : ℕ) → read-item-lts.Need-read-type-requires (read-item-env t) (read-item-at t) read-item.Post
 read-item-read-type-requires t c κs = (omega (arith, c .before .before .before .before .before .before .before .before .pre .0), ((c .before .before .before .before .before .before .before .before .pre .1 .0), (c .before .before .before .before .before .before .before .before .pre .1 .1)))
@@ -265,46 +242,70 @@ read-item-enum-told-2 : (t : ℕ) → read-item-lts.Need-enum-told-2 (read-item-
 read-item-enum-told-2 t c = search needs
 
 read-item-returns-3 : (t : ℕ) → read-item-lts.Need-returns-3 (read-item-env t) (read-item-at t) read-item.Post
-read-item-returns-3 t c = (sound-refused (c .enum-told2 .given .1), λ d x. item-told₃ _ _ _ (c .before .before .before .before .before .before .before .before .before .before .before .pre .1 .0) (c .before .before .before .before .before .before .before .before .before .item .ensures) (c .before .before .before .before .before .before .before .r1 .given .1) (c .before .before .before .before .before .before .before .before .before .before .before .pre .1 .2) (c .before .before .before .before .before .if1 .left) (c .before .before .read-type .ensures .1) (c .enum-told2 .given .1) d)
+read-item-returns-3 t c = (sound-refused (c .enum-told2 .given .1), item-told₃ _ _ _ (c .before .before .before .before .before .before .before .before .before .before .before .pre .1 .0) (c .before .before .before .before .before .before .before .before .before .item .ensures) (c .before .before .before .before .before .before .before .r1 .given .1) (c .before .before .before .before .before .before .before .before .before .before .before .pre .1 .2) (c .before .before .before .before .before .if1 .left) (c .before .before .read-type .ensures .1) (c .enum-told2 .given .1))
 
-read-item-add-nodes-3 : (t : ℕ) → read-item-lts.Need-add-nodes-3 (read-item-env t) (read-item-at t) read-item.Post
-read-item-add-nodes-3 t c = omega (arith, (sound-past (c .before .before .before .read-type .ensures .0) (c .before .r2 .given .1)) .small)
+read-item-add-nodes : (t : ℕ) → read-item-lts.Need-add-nodes (read-item-env t) (read-item-at t) read-item.Post
+read-item-add-nodes t c = omega (arith, (sound-past (c .before .before .before .read-type .ensures .0) (c .before .r2 .given .1)) .small)
 
-read-item-mul-nodes-3 : (t : ℕ) → read-item-lts.Need-mul-nodes-3 (read-item-env t) (read-item-at t) read-item.Post
-read-item-mul-nodes-3 t c = omega (arith, (c .before .before .before .before .before .before .before .before .before .before .before .before .pre .1 .2), (c .before .before .before .before .before .before .before .before .before .before .before .before .pre .1 .0) .ready .few-nodes, item-few ((item-is (c .before .before .before .before .before .before .before .before .before .before .item .ensures) (c .before .before .before .before .before .before .before .before .r1 .given .1)) .0))
-
-read-item-add-nodes-4 : (t : ℕ) → read-item-lts.Need-add-nodes-4 (read-item-env t) (read-item-at t) read-item.Post
-read-item-add-nodes-4 t c = omega (arith, (c .before .before .before .before .before .before .before .before .before .before .before .before .pre .1 .2), (c .before .before .before .before .before .before .before .before .before .before .before .before .pre .1 .0) .ready .few-nodes, item-few ((item-is (c .before .before .before .before .before .before .before .before .before .before .item .ensures) (c .before .before .before .before .before .before .before .before .r1 .given .1)) .0))
-
-read-item-add-nodes-5 : (t : ℕ) → read-item-lts.Need-add-nodes-5 (read-item-env t) (read-item-at t) read-item.Post
-read-item-add-nodes-5 t c = omega (arith, (c .before .before .before .before .before .before .before .before .before .before .before .before .pre .1 .2), (c .before .before .before .before .before .before .before .before .before .before .before .before .pre .1 .0) .ready .few-nodes, item-few ((item-is (c .before .before .before .before .before .before .before .before .before .before .item .ensures) (c .before .before .before .before .before .before .before .before .r1 .given .1)) .0))
-
-read-item-mul-nodes-4 : (t : ℕ) → read-item-lts.Need-mul-nodes-4 (read-item-env t) (read-item-at t) read-item.Post
-read-item-mul-nodes-4 t c = omega (arith, (c .before .before .before .before .before .before .before .before .before .before .before .before .pre .1 .2), (c .before .before .before .before .before .before .before .before .before .before .before .before .pre .1 .0) .ready .few-nodes, item-few ((item-is (c .before .before .before .before .before .before .before .before .before .before .item .ensures) (c .before .before .before .before .before .before .before .before .r1 .given .1)) .0))
+read-item-mul-nodes-2 : (t : ℕ) → read-item-lts.Need-mul-nodes-2 (read-item-env t) (read-item-at t) read-item.Post
+read-item-mul-nodes-2 t c = omega (arith, (c .before .before .before .before .before .before .before .before .before .before .before .before .pre .1 .2), (c .before .before .before .before .before .before .before .before .before .before .before .before .pre .1 .0) .ready .few-nodes, item-few ((item-is (c .before .before .before .before .before .before .before .before .before .before .item .ensures) (c .before .before .before .before .before .before .before .before .r1 .given .1)) .0))
 
 read-item-element-write-nodes-2 : (t : ℕ) → read-item-lts.Need-element-write-nodes-2 (read-item-env t) (read-item-at t) read-item.Post
 read-item-element-write-nodes-2 t c = omega (arith, (c .before .before .before .before .before .before .before .before .before .before .before .before .pre .1 .2), (c .before .before .before .before .before .before .before .before .before .before .before .before .pre .1 .0) .ready .few-nodes, item-few ((item-is (c .before .before .before .before .before .before .before .before .before .before .item .ensures) (c .before .before .before .before .before .before .before .before .r1 .given .1)) .0), (sound-past (c .before .before .before .read-type .ensures .0) (c .before .r2 .given .1)) .ready .room-nodes)
 
-read-item-add-read-rest-2 : (t : ℕ) → read-item-lts.Need-add-read-rest-2 (read-item-env t) (read-item-at t) read-item.Post
-read-item-add-read-rest-2 t c = omega (arith, (c .before .before .before .before .before .before .before .before .before .before .before .before .before .before .pre .1 .2), (c .before .before .before .before .before .before .before .before .before .before .before .before .before .before .pre .1 .0) .ready .few-nodes, item-few ((item-is (c .before .before .before .before .before .before .before .before .before .before .before .before .item .ensures) (c .before .before .before .before .before .before .before .before .before .before .r1 .given .1)) .0))
-
-read-item-read-rest-requires-2 : (t : ℕ) → read-item-lts.Need-read-rest-requires-2 (read-item-env t) (read-item-at t) read-item.Post
-read-item-read-rest-requires-2 t c κs = let z = (sound-past (c .before .before .before .before .before .read-type .ensures .0) (c .before .before .before .r2 .given .1)) in (omega (arith, c .before .before .before .before .before .before .before .before .before .before .before .before .before .before .pre .0, z .further, z .ready .inside), (ready-set _ _ (z .ready), (c .before .before .before .before .before .before .before .before .before .before .before .before .before .before .pre .1 .1), omega (arith, (c .before .before .before .before .before .before .before .before .before .before .before .before .before .before .pre .1 .2), z .more), omega (arith, (c .before .before .before .before .before .before .before .before .before .before .before .before .before .before .pre .1 .2), (c .before .before .before .before .before .before .before .before .before .before .before .before .before .before .pre .1 .0) .ready .few-nodes, item-few ((item-is (c .before .before .before .before .before .before .before .before .before .before .before .before .item .ensures) (c .before .before .before .before .before .before .before .before .before .before .r1 .given .1)) .0)), (c .before .before .before .before .before .before .before .before .before .before .before .before .before .before .pre .1 .3)))
-
 read-item-returns-4 : (t : ℕ) → read-item-lts.Need-returns-4 (read-item-env t) (read-item-at t) read-item.Post
-read-item-returns-4 t c = let z = (sound-past (c .before .before .before .before .before .before .read-type .ensures .0) (c .before .before .before .before .r2 .given .1)) in (sound-on (c .read-rest2 .ensures .0) (omega (arith, z .further)) (z .more), λ d x. item-told₄ _ _ _ (c .before .before .before .before .before .before .before .before .before .before .before .before .before .before .before .pre .1 .0) (c .before .before .before .before .before .before .before .before .before .before .before .before .before .item .ensures) (c .before .before .before .before .before .before .before .before .before .before .before .r1 .given .1) (c .before .before .before .before .before .before .before .before .before .before .before .before .before .before .before .pre .1 .2) (c .before .before .before .before .before .before .before .before .before .if1 .left) (c .before .before .before .before .before .before .read-type .ensures .1) (c .before .before .before .before .r2 .given .1) (z .ready .few-nodes) (z .ready .room-nodes) refl (c .read-rest2 .ensures .1) d x)
+read-item-returns-4 t c = let z = (sound-past (c .before .before .before .read-type .ensures .0) (c .before .r2 .given .1)) in (sound-number _ _ (z .further) (z .more) (z .ready), item-told₄ _ _ _ (c .before .before .before .before .before .before .before .before .before .before .before .before .pre .1 .0) (c .before .before .before .before .before .before .before .before .before .before .item .ensures) (c .before .before .before .before .before .before .before .before .r1 .given .1) (c .before .before .before .before .before .before .before .before .before .before .before .before .pre .1 .2) (c .before .before .before .before .before .before .if1 .left) (c .before .before .before .read-type .ensures .1) (c .before .r2 .given .1) (z .ready .few-nodes) (z .ready .room-nodes))
 
-read-items-take-requires : (t : ℕ) → read-items-lts.Need-take-requires (read-items-env t) (read-items-at t) read-items.Post
+abbrev read-items-Inv-loop : read-items-lts.InvT-loop
+read-items-Inv-loop s nodes₀ uses₀ deep node closing t₀ n₀ nodes uses t n = items.Turning s nodes₀ uses₀ nodes uses closing deep node t₀ t n
+
+abbrev read-items-μ-loop : read-items-lts.MeasureT-loop
+read-items-μ-loop s nodes₀ uses₀ deep node closing t₀ n₀ nodes uses t n = length s - t .at
+
+read-items-take-requires : (t : ℕ) → read-items-lts.Need-take-requires (read-items-env t) (read-items-at t) read-items.Post read-items-Inv-loop read-items-μ-loop
 read-items-take-requires t c κs = search needs
 
-read-items-returns : (t : ℕ) → read-items-lts.Need-returns (read-items-env t) (read-items-at t) read-items.Post
-read-items-returns t c = let k = (c .before .before .before .take .ensures ((c .before .before .before .before .before .pre .1 .0) .inside)) in (sound-step (onward-taken (c .before .before .before .before .before .pre .1 .0) k (c .before .if1 .taken) (omega (arith, (c .before .before .before .before .before .pre .1 .3)))) (omega arith), λ d x. items-none ((c .before .before .before .before .before .pre .1 .0) .short) d _ _ k (c .before .if1 .taken) x)
+read-items-returns : (t : ℕ) → read-items-lts.Need-returns (read-items-env t) (read-items-at t) read-items.Post read-items-Inv-loop read-items-μ-loop
+read-items-returns t c = let k = (c .before .before .before .take .ensures ((c .before .before .before .before .before .pre .1 .0) .inside)) in (sound-step (onward-taken (c .before .before .before .before .before .pre .1 .0) k (c .before .if1 .taken) (omega (arith, (c .before .before .before .before .before .pre .1 .3)))) (omega arith), items.turn-none k _ _ (c .before .if1 .taken))
 
-read-items-read-item-requires : (t : ℕ) → read-items-lts.Need-read-item-requires (read-items-env t) (read-items-at t) read-items.Post
-read-items-read-item-requires t c κs = let k = (c .before .before .before .before .take .ensures ((c .before .before .before .before .before .before .pre .1 .0) .inside)) in (omega (arith, c .before .before .before .before .before .before .pre .0, k .from), (take-ready (c .before .before .before .before .before .before .pre .1 .0) k, (c .before .before .before .before .before .before .pre .1 .1), omega (arith, (c .before .before .before .before .before .before .pre .1 .2), k .nodes), (c .before .before .before .before .before .before .pre .1 .3)))
+read-items-loop-holds : (t : ℕ) → read-items-lts.Need-loop-holds (read-items-env t) (read-items-at t) read-items.Post read-items-Inv-loop read-items-μ-loop
+read-items-loop-holds t c = items.turn-first (take-ready (c .before .before .before .before .pre .1 .0) (c .before .before .take .ensures ((c .before .before .before .before .pre .1 .0) .inside)))
 
-read-items-returns-2 : (t : ℕ) → read-items-lts.Need-returns-2 (read-items-env t) (read-items-at t) read-items.Post
-read-items-returns-2 t c = let k = (c .before .before .before .before .before .take .ensures ((c .before .before .before .before .before .before .before .pre .1 .0) .inside)) in (sound-on (c .read-item .ensures .0) (k .from) (omega (arith, k .nodes)), λ d x. items-some ((c .before .before .before .before .before .before .before .pre .1 .0) .short) d k (λ q. c .before .before .before .if1 .left (q ∙ sym x)) (c .read-item .ensures .1 d x))
+read-items-read-item-requires : (t : ℕ) → read-items-lts.Need-read-item-requires (read-items-env t) (read-items-at t) read-items.Post read-items-Inv-loop read-items-μ-loop
+read-items-read-item-requires t c κs = let v = (c .before .before .loop .inv) in let k = (c .before .before .before .before .before .take .ensures ((c .before .before .before .before .before .before .before .pre .1 .0) .inside)) in (omega (arith, c .before .before .before .before .before .before .before .pre .0, v .onward, k .from), (v .ready, (c .before .before .before .before .before .before .before .pre .1 .1), omega (arith, (c .before .before .before .before .before .before .before .pre .1 .2), v .more, k .nodes)))
+
+read-items-enum-known-r1 : (t : ℕ) → read-items-lts.Need-enum-known-r1 (read-items-env t) (read-items-at t) read-items.Post read-items-Inv-loop read-items-μ-loop
+read-items-enum-known-r1 t c = search needs
+
+read-items-enum-told : (t : ℕ) → read-items-lts.Need-enum-told (read-items-env t) (read-items-at t) read-items.Post read-items-Inv-loop read-items-μ-loop
+read-items-enum-told t c = search needs
+
+read-items-returns-2 : (t : ℕ) → read-items-lts.Need-returns-2 (read-items-env t) (read-items-at t) read-items.Post read-items-Inv-loop read-items-μ-loop
+read-items-returns-2 t c = (sound-refused (c .enum-told .given .1), items.turn-refused (c .before .before .before .before .before .before .before .before .take .ensures ((c .before .before .before .before .before .before .before .before .before .before .pre .1 .0) .inside)) (c .before .before .before .before .before .before .if1 .left) (c .before .before .before .before .before .loop .inv) (c .before .before .read-item .ensures .1) (c .enum-told .given .1))
+
+read-items-add-n : (t : ℕ) → read-items-lts.Need-add-n (read-items-env t) (read-items-at t) read-items.Post read-items-Inv-loop read-items-μ-loop
+read-items-add-n t c = omega (arith, (c .before .before .before .read-item .ensures .1) .few (c .before .r1 .given .1))
+
+read-items-take-requires-2 : (t : ℕ) → read-items-lts.Need-take-requires-2 (read-items-env t) (read-items-at t) read-items.Post read-items-Inv-loop read-items-μ-loop
+read-items-take-requires-2 t c κs = search needs
+
+read-items-cast-t19 : (t : ℕ) → read-items-lts.Need-cast-t19 (read-items-env t) (read-items-at t) read-items.Post read-items-Inv-loop read-items-μ-loop
+read-items-cast-t19 t c = omega (arith, (c .before .before .before .before .before .before .before .read-item .ensures .1) .few (c .before .before .before .before .before .r1 .given .1))
+
+read-items-returns-3 : (t : ℕ) → read-items-lts.Need-returns-3 (read-items-env t) (read-items-at t) read-items.Post read-items-Inv-loop read-items-μ-loop
+read-items-returns-3 t c = let v = (c .before .before .before .before .before .before .before .before .before .before .loop .inv) in let k = (c .before .before .before .before .before .before .before .before .before .before .before .before .before .take .ensures ((c .before .before .before .before .before .before .before .before .before .before .before .before .before .before .before .pre .1 .0) .inside)) in let z = (sound-past (c .before .before .before .before .before .before .before .read-item .ensures .0) (c .before .before .before .before .before .r1 .given .1)) in let w = onward-taken ((sound-past (c .before .before .before .before .before .before .before .read-item .ensures .0) (c .before .before .before .before .before .r1 .given .1)) .ready) (c .before .before .before .take2 .ensures ((sound-past (c .before .before .before .before .before .before .before .read-item .ensures .0) (c .before .before .before .before .before .r1 .given .1)) .ready .inside)) (c .if2 .taken) (omega (arith, (c .before .before .before .before .before .before .before .before .before .before .before .before .before .before .before .pre .1 .3))) in (sound-on (sound-step w (omega (arith, (c .before .before .before .before .before .before .before .read-item .ensures .1) .few (c .before .before .before .before .before .r1 .given .1)))) (omega (arith, k .from, v .onward, z .further)) (omega (arith, k .nodes, v .more, z .more)), items.turn-closed (c .before .before .before .before .before .before .before .before .before .before .before .before .before .take .ensures ((c .before .before .before .before .before .before .before .before .before .before .before .before .before .before .before .pre .1 .0) .inside)) (c .before .before .before .before .before .before .before .before .before .before .before .if1 .left) (c .before .before .before .before .before .before .before .before .before .before .loop .inv) (c .before .before .before .before .before .before .before .read-item .ensures .1) (c .before .before .before .before .before .r1 .given .1) (omega (arith, (c .before .before .before .before .before .before .before .before .before .before .before .before .before .before .before .pre .1 .2), (c .before .before .before .before .before .before .before .before .before .before .before .before .before .take .ensures ((c .before .before .before .before .before .before .before .before .before .before .before .before .before .before .before .pre .1 .0) .inside)) .nodes)) (c .before .before .before .take2 .ensures ((sound-past (c .before .before .before .before .before .before .before .read-item .ensures .0) (c .before .before .before .before .before .r1 .given .1)) .ready .inside)) (c .if2 .taken))
+
+read-items-returns-4 : (t : ℕ) → read-items-lts.Need-returns-4 (read-items-env t) (read-items-at t) read-items.Post read-items-Inv-loop read-items-μ-loop
+read-items-returns-4 t c = (refused, items.turn-other (c .before .before .before .before .before .before .before .before .before .before .before .before .before .before .before .take .ensures ((c .before .before .before .before .before .before .before .before .before .before .before .before .before .before .before .before .before .pre .1 .0) .inside)) (c .before .before .before .before .before .before .before .before .before .before .before .before .before .if1 .left) (c .before .before .before .before .before .before .before .before .before .before .before .before .loop .inv) (c .before .before .before .before .before .before .before .before .before .read-item .ensures .1) (c .before .before .before .before .before .before .before .r1 .given .1) (omega (arith, (c .before .before .before .before .before .before .before .before .before .before .before .before .before .before .before .before .before .pre .1 .2), (c .before .before .before .before .before .before .before .before .before .before .before .before .before .before .before .take .ensures ((c .before .before .before .before .before .before .before .before .before .before .before .before .before .before .before .before .before .pre .1 .0) .inside)) .nodes)) (c .before .before .before .before .before .take2 .ensures ((sound-past (c .before .before .before .before .before .before .before .before .before .read-item .ensures .0) (c .before .before .before .before .before .before .before .r1 .given .1)) .ready .inside)) (c .before .before .if2 .left) (c .if3 .taken))
+
+read-items-take-requires-3 : (t : ℕ) → read-items-lts.Need-take-requires-3 (read-items-env t) (read-items-at t) read-items.Post read-items-Inv-loop read-items-μ-loop
+read-items-take-requires-3 t c κs = search needs
+
+read-items-loop-less : (t : ℕ) → read-items-lts.Need-loop-less (read-items-env t) (read-items-at t) read-items.Post read-items-Inv-loop read-items-μ-loop
+read-items-loop-less t c = let z = (sound-past (c .before .before .before .before .before .before .before .before .before .before .read-item .ensures .0) (c .before .before .before .before .before .before .before .before .r1 .given .1)) in let w = onward-taken ((sound-past (c .before .before .before .before .before .before .before .before .before .before .read-item .ensures .0) (c .before .before .before .before .before .before .before .before .r1 .given .1)) .ready) (c .before .before .before .before .before .before .take2 .ensures ((sound-past (c .before .before .before .before .before .before .before .before .before .before .read-item .ensures .0) (c .before .before .before .before .before .before .before .before .r1 .given .1)) .ready .inside)) (c .before .if3 .left) (omega arith) in let k = c .take3 .ensures ((onward-taken ((sound-past (c .before .before .before .before .before .before .before .before .before .before .read-item .ensures .0) (c .before .before .before .before .before .before .before .before .r1 .given .1)) .ready) (c .before .before .before .before .before .before .take2 .ensures ((sound-past (c .before .before .before .before .before .before .before .before .before .before .read-item .ensures .0) (c .before .before .before .before .before .before .before .before .r1 .given .1)) .ready .inside)) (c .before .if3 .left) (omega arith)) .ready .inside) in omega (arith, z .further, w .further, k .from, w .ready .inside)
+
+read-items-loop-again : (t : ℕ) → read-items-lts.Need-loop-again (read-items-env t) (read-items-at t) read-items.Post read-items-Inv-loop read-items-μ-loop
+read-items-loop-again t c = let z = (sound-past (c .before .before .before .before .before .before .before .before .before .before .read-item .ensures .0) (c .before .before .before .before .before .before .before .before .r1 .given .1)) in let w = onward-taken ((sound-past (c .before .before .before .before .before .before .before .before .before .before .read-item .ensures .0) (c .before .before .before .before .before .before .before .before .r1 .given .1)) .ready) (c .before .before .before .before .before .before .take2 .ensures ((sound-past (c .before .before .before .before .before .before .before .before .before .before .read-item .ensures .0) (c .before .before .before .before .before .before .before .before .r1 .given .1)) .ready .inside)) (c .before .if3 .left) (omega arith) in let k = c .take3 .ensures ((onward-taken ((sound-past (c .before .before .before .before .before .before .before .before .before .before .read-item .ensures .0) (c .before .before .before .before .before .before .before .before .r1 .given .1)) .ready) (c .before .before .before .before .before .before .take2 .ensures ((sound-past (c .before .before .before .before .before .before .before .before .before .before .read-item .ensures .0) (c .before .before .before .before .before .before .before .before .r1 .given .1)) .ready .inside)) (c .before .if3 .left) (omega arith)) .ready .inside) in items.turn-next (c .before .before .before .before .before .before .before .before .before .before .before .before .before .before .before .before .take .ensures ((c .before .before .before .before .before .before .before .before .before .before .before .before .before .before .before .before .before .before .pre .1 .0) .inside)) (c .before .before .before .before .before .before .before .before .before .before .before .before .before .before .if1 .left) (c .before .before .before .before .before .before .before .before .before .before .before .before .before .loop .inv) (c .before .before .before .before .before .before .before .before .before .before .read-item .ensures .1) (c .before .before .before .before .before .before .before .before .r1 .given .1) (omega (arith, (c .before .before .before .before .before .before .before .before .before .before .before .before .before .before .before .before .before .before .pre .1 .2), (c .before .before .before .before .before .before .before .before .before .before .before .before .before .before .before .before .take .ensures ((c .before .before .before .before .before .before .before .before .before .before .before .before .before .before .before .before .before .before .pre .1 .0) .inside)) .nodes)) (c .before .before .before .before .before .before .take2 .ensures ((sound-past (c .before .before .before .before .before .before .before .before .before .before .read-item .ensures .0) (c .before .before .before .before .before .before .before .before .r1 .given .1)) .ready .inside)) (c .before .if3 .left) k (take-ready (w .ready) k) (omega (arith, z .further, w .further, k .from)) (omega (arith, z .more, w .nodes, k .nodes))
 
 read-label-label-requires : (t : ℕ) → read-label-lts.Need-label-requires (read-label-env t) (read-label-at t) read-label.Post
 read-label-label-requires t c κs = (omega (arith, (c .before .before .pre .1 .2), (c .before .before .pre .1 .0) .ready .few-nodes), (c .before .before .pre .1 .3), (c .before .before .pre .1 .0) .ready .room-nodes)
@@ -352,13 +353,13 @@ read-label-returns-4 : (t : ℕ) → read-label-lts.Need-returns-4 (read-label-e
 read-label-returns-4 t c = let g = (signed-onward (label-ready (c .before .before .before .before .before .before .before .before .before .before .before .before .before .before .before .before .before .before .before .pre .1 .0) ((fresh-label (c .before .before .before .before .before .before .before .before .before .before .before .before .before .before .before .before .label .ensures) (c .before .before .before .before .before .before .before .before .before .before .before .before .before .before .r1 .given .1)) .1)) (c .before .before .before .before .before .before .before .before .before .before .before .before .sign .ensures) (c .before .before .before .before .before .before .before .before .before .before .r2 .given .1) (omega arith)) in let k = (c .before .before .before .before .before .before .take .ensures ((signed-onward (label-ready (c .before .before .before .before .before .before .before .before .before .before .before .before .before .before .before .before .before .before .before .pre .1 .0) ((fresh-label (c .before .before .before .before .before .before .before .before .before .before .before .before .before .before .before .before .label .ensures) (c .before .before .before .before .before .before .before .before .before .before .before .before .before .before .r1 .given .1)) .1)) (c .before .before .before .before .before .before .before .before .before .before .before .before .sign .ensures) (c .before .before .before .before .before .before .before .before .before .before .r2 .given .1) (omega arith)) .ready .inside)) in let z = (sound-past (c .before .before .before .before .before .read-type .ensures .0) (c .before .before .before .r3 .given .1)) in let e = label-places ((fresh-label (c .before .before .before .before .before .before .before .before .before .before .before .before .before .before .before .before .label .ensures) (c .before .before .before .before .before .before .before .before .before .before .before .before .before .before .r1 .given .1)) .1) in (sound-row (c .before .before .before .before .before .before .before .before .before .before .before .before .before .before .before .before .before .before .before .args .node) (c .before .before .before .before .before .before .before .before .before .before .before .before .before .before .before .before .before .before .before .args .n) (c .before .before .before .before .before .before .before .before .before .before .before .before .before .before .before .before .before .before .before .args .t) (c .before .before .before .r3 .given .0 .0) (omega (arith, e .0, g .further, k .from, z .further, (c .before .before .before .before .before .before .before .before .before .before .before .before .before .before .before .before .before .before .before .pre .1 .0) .order)) (omega (arith, e .1, g .nodes, k .nodes, z .more)) (z .ready) (c .store-label .ensures), label-told₄ _ _ _ (c .before .before .before .before .before .before .before .before .before .before .before .before .before .before .before .before .before .before .before .pre .1 .0) (c .before .before .before .before .before .before .before .before .before .before .before .before .before .before .before .before .label .ensures) (c .before .before .before .before .before .before .before .before .before .before .before .before .before .before .r1 .given .1) (c .before .before .before .before .before .before .before .before .before .before .before .before .sign .ensures) (c .before .before .before .before .before .before .before .before .before .before .r2 .given .1) k (c .before .before .before .before .before .read-type .ensures .1) (c .before .before .before .r3 .given .1) (c .before .before .before .before .before .before .before .before .before .before .before .before .before .before .before .before .before .before .before .pre .1 .2) (z .ready .few-nodes) (z .ready .room-nodes) (c .store-label .ensures))
 
 abbrev read-labels-Inv-loop : read-labels-lts.InvT-loop
-read-labels-Inv-loop s nodes₀ uses₀ deep node from₀ n₀ nodes uses from n = Turning s nodes₀ uses₀ nodes uses deep node from₀ from n
+read-labels-Inv-loop s nodes₀ uses₀ deep node from₀ n₀ nodes uses from n = labels.Turning s nodes₀ uses₀ nodes uses deep node from₀ from n
 
 abbrev read-labels-μ-loop : read-labels-lts.MeasureT-loop
 read-labels-μ-loop s nodes₀ uses₀ deep node from₀ n₀ nodes uses from n = length s - from .at
 
 read-labels-loop-holds : (t : ℕ) → read-labels-lts.Need-loop-holds (read-labels-env t) (read-labels-at t) read-labels.Post read-labels-Inv-loop read-labels-μ-loop
-read-labels-loop-holds t c = turn-first (c .before .pre .1 .0)
+read-labels-loop-holds t c = labels.turn-first (c .before .pre .1 .0)
 
 read-labels-take-requires : (t : ℕ) → read-labels-lts.Need-take-requires (read-labels-env t) (read-labels-at t) read-labels.Post read-labels-Inv-loop read-labels-μ-loop
 read-labels-take-requires t c κs = search needs
@@ -373,7 +374,7 @@ read-labels-enum-told : (t : ℕ) → read-labels-lts.Need-enum-told (read-label
 read-labels-enum-told t c = search needs
 
 read-labels-returns : (t : ℕ) → read-labels-lts.Need-returns (read-labels-env t) (read-labels-at t) read-labels.Post read-labels-Inv-loop read-labels-μ-loop
-read-labels-returns t c = (sound-refused (c .enum-told .given .1), turn-refused (c .before .before .before .before .before .before .loop .inv) (c .before .before .before .take .ensures ((c .before .before .before .before .before .before .loop .inv) .ready .inside)) (c .before .before .read-label .ensures .1) (c .enum-told .given .1))
+read-labels-returns t c = (sound-refused (c .enum-told .given .1), labels.turn-refused (c .before .before .before .before .before .before .loop .inv) (c .before .before .before .take .ensures ((c .before .before .before .before .before .before .loop .inv) .ready .inside)) (c .before .before .read-label .ensures .1) (c .enum-told .given .1))
 
 read-labels-add-n : (t : ℕ) → read-labels-lts.Need-add-n (read-labels-env t) (read-labels-at t) read-labels.Post read-labels-Inv-loop read-labels-μ-loop
 read-labels-add-n t c = omega (arith, (c .before .before .before .read-label .ensures .1) .few (c .before .r1 .given .1))
@@ -385,16 +386,16 @@ read-labels-cast-t17 : (t : ℕ) → read-labels-lts.Need-cast-t17 (read-labels-
 read-labels-cast-t17 t c = omega (arith, (c .before .before .before .before .before .before .before .read-label .ensures .1) .few (c .before .before .before .before .before .r1 .given .1))
 
 read-labels-returns-2 : (t : ℕ) → read-labels-lts.Need-returns-2 (read-labels-env t) (read-labels-at t) read-labels.Post read-labels-Inv-loop read-labels-μ-loop
-read-labels-returns-2 t c = let v = (c .before .before .before .before .before .before .before .before .before .before .before .loop .inv) in let k = (c .before .before .before .before .before .before .before .before .take .ensures ((c .before .before .before .before .before .before .before .before .before .before .before .loop .inv) .ready .inside)) in let z = (sound-past (c .before .before .before .before .before .before .before .read-label .ensures .0) (c .before .before .before .before .before .r1 .given .1)) in let w = onward-taken ((sound-past (c .before .before .before .before .before .before .before .read-label .ensures .0) (c .before .before .before .before .before .r1 .given .1)) .ready) (c .before .before .before .take2 .ensures ((sound-past (c .before .before .before .before .before .before .before .read-label .ensures .0) (c .before .before .before .before .before .r1 .given .1)) .ready .inside)) (c .if1 .taken) (omega arith) in (sound-on (sound-step w (omega (arith, (c .before .before .before .before .before .before .before .read-label .ensures .1) .few (c .before .before .before .before .before .r1 .given .1)))) (omega (arith, v .onward, k .from, z .further)) (omega (arith, v .more, k .nodes, z .more)), turn-closed (c .before .before .before .before .before .before .before .before .before .before .before .loop .inv) (c .before .before .before .before .before .before .before .before .take .ensures ((c .before .before .before .before .before .before .before .before .before .before .before .loop .inv) .ready .inside)) (c .before .before .before .before .before .before .before .read-label .ensures .1) (c .before .before .before .before .before .r1 .given .1) (c .before .before .before .before .before .before .before .before .before .before .before .before .before .pre .1 .2) (c .before .before .before .take2 .ensures ((sound-past (c .before .before .before .before .before .before .before .read-label .ensures .0) (c .before .before .before .before .before .r1 .given .1)) .ready .inside)) (c .if1 .taken))
+read-labels-returns-2 t c = let v = (c .before .before .before .before .before .before .before .before .before .before .before .loop .inv) in let k = (c .before .before .before .before .before .before .before .before .take .ensures ((c .before .before .before .before .before .before .before .before .before .before .before .loop .inv) .ready .inside)) in let z = (sound-past (c .before .before .before .before .before .before .before .read-label .ensures .0) (c .before .before .before .before .before .r1 .given .1)) in let w = onward-taken ((sound-past (c .before .before .before .before .before .before .before .read-label .ensures .0) (c .before .before .before .before .before .r1 .given .1)) .ready) (c .before .before .before .take2 .ensures ((sound-past (c .before .before .before .before .before .before .before .read-label .ensures .0) (c .before .before .before .before .before .r1 .given .1)) .ready .inside)) (c .if1 .taken) (omega arith) in (sound-on (sound-step w (omega (arith, (c .before .before .before .before .before .before .before .read-label .ensures .1) .few (c .before .before .before .before .before .r1 .given .1)))) (omega (arith, v .onward, k .from, z .further)) (omega (arith, v .more, k .nodes, z .more)), labels.turn-closed (c .before .before .before .before .before .before .before .before .before .before .before .loop .inv) (c .before .before .before .before .before .before .before .before .take .ensures ((c .before .before .before .before .before .before .before .before .before .before .before .loop .inv) .ready .inside)) (c .before .before .before .before .before .before .before .read-label .ensures .1) (c .before .before .before .before .before .r1 .given .1) (c .before .before .before .before .before .before .before .before .before .before .before .before .before .pre .1 .2) (c .before .before .before .take2 .ensures ((sound-past (c .before .before .before .before .before .before .before .read-label .ensures .0) (c .before .before .before .before .before .r1 .given .1)) .ready .inside)) (c .if1 .taken))
 
 read-labels-returns-3 : (t : ℕ) → read-labels-lts.Need-returns-3 (read-labels-env t) (read-labels-at t) read-labels.Post read-labels-Inv-loop read-labels-μ-loop
-read-labels-returns-3 t c = (refused, turn-other (c .before .before .before .before .before .before .before .before .before .before .before .before .before .loop .inv) (c .before .before .before .before .before .before .before .before .before .before .take .ensures ((c .before .before .before .before .before .before .before .before .before .before .before .before .before .loop .inv) .ready .inside)) (c .before .before .before .before .before .before .before .before .before .read-label .ensures .1) (c .before .before .before .before .before .before .before .r1 .given .1) (c .before .before .before .before .before .before .before .before .before .before .before .before .before .before .before .pre .1 .2) (c .before .before .before .before .before .take2 .ensures ((sound-past (c .before .before .before .before .before .before .before .before .before .read-label .ensures .0) (c .before .before .before .before .before .before .before .r1 .given .1)) .ready .inside)) (c .before .before .if1 .left) (c .if2 .taken))
+read-labels-returns-3 t c = (refused, labels.turn-other (c .before .before .before .before .before .before .before .before .before .before .before .before .before .loop .inv) (c .before .before .before .before .before .before .before .before .before .before .take .ensures ((c .before .before .before .before .before .before .before .before .before .before .before .before .before .loop .inv) .ready .inside)) (c .before .before .before .before .before .before .before .before .before .read-label .ensures .1) (c .before .before .before .before .before .before .before .r1 .given .1) (c .before .before .before .before .before .before .before .before .before .before .before .before .before .before .before .pre .1 .2) (c .before .before .before .before .before .take2 .ensures ((sound-past (c .before .before .before .before .before .before .before .before .before .read-label .ensures .0) (c .before .before .before .before .before .before .before .r1 .given .1)) .ready .inside)) (c .before .before .if1 .left) (c .if2 .taken))
 
 read-labels-loop-less : (t : ℕ) → read-labels-lts.Need-loop-less (read-labels-env t) (read-labels-at t) read-labels.Post read-labels-Inv-loop read-labels-μ-loop
 read-labels-loop-less t c = let k = (c .before .before .before .before .before .before .before .before .before .before .take .ensures ((c .before .before .before .before .before .before .before .before .before .before .before .before .before .loop .inv) .ready .inside)) in let z = (sound-past (c .before .before .before .before .before .before .before .before .before .read-label .ensures .0) (c .before .before .before .before .before .before .before .r1 .given .1)) in let w = onward-taken ((sound-past (c .before .before .before .before .before .before .before .before .before .read-label .ensures .0) (c .before .before .before .before .before .before .before .r1 .given .1)) .ready) (c .before .before .before .before .before .take2 .ensures ((sound-past (c .before .before .before .before .before .before .before .before .before .read-label .ensures .0) (c .before .before .before .before .before .before .before .r1 .given .1)) .ready .inside)) (c .if2 .left) (omega arith) in omega (arith, k .from, z .further, w .further, w .ready .inside)
 
 read-labels-loop-again : (t : ℕ) → read-labels-lts.Need-loop-again (read-labels-env t) (read-labels-at t) read-labels.Post read-labels-Inv-loop read-labels-μ-loop
-read-labels-loop-again t c = let k = (c .before .before .before .before .before .before .before .before .before .before .take .ensures ((c .before .before .before .before .before .before .before .before .before .before .before .before .before .loop .inv) .ready .inside)) in let z = (sound-past (c .before .before .before .before .before .before .before .before .before .read-label .ensures .0) (c .before .before .before .before .before .before .before .r1 .given .1)) in let w = onward-taken ((sound-past (c .before .before .before .before .before .before .before .before .before .read-label .ensures .0) (c .before .before .before .before .before .before .before .r1 .given .1)) .ready) (c .before .before .before .before .before .take2 .ensures ((sound-past (c .before .before .before .before .before .before .before .before .before .read-label .ensures .0) (c .before .before .before .before .before .before .before .r1 .given .1)) .ready .inside)) (c .if2 .left) (omega arith) in turn-next (c .before .before .before .before .before .before .before .before .before .before .before .before .before .loop .inv) (c .before .before .before .before .before .before .before .before .before .before .take .ensures ((c .before .before .before .before .before .before .before .before .before .before .before .before .before .loop .inv) .ready .inside)) (c .before .before .before .before .before .before .before .before .before .read-label .ensures .1) (c .before .before .before .before .before .before .before .r1 .given .1) (c .before .before .before .before .before .before .before .before .before .before .before .before .before .before .before .pre .1 .2) (c .before .before .before .before .before .take2 .ensures ((sound-past (c .before .before .before .before .before .before .before .before .before .read-label .ensures .0) (c .before .before .before .before .before .before .before .r1 .given .1)) .ready .inside)) (c .if2 .left) (w .ready) (omega (arith, k .from, z .further, w .further)) (omega (arith, k .nodes, z .more, w .nodes))
+read-labels-loop-again t c = let k = (c .before .before .before .before .before .before .before .before .before .before .take .ensures ((c .before .before .before .before .before .before .before .before .before .before .before .before .before .loop .inv) .ready .inside)) in let z = (sound-past (c .before .before .before .before .before .before .before .before .before .read-label .ensures .0) (c .before .before .before .before .before .before .before .r1 .given .1)) in let w = onward-taken ((sound-past (c .before .before .before .before .before .before .before .before .before .read-label .ensures .0) (c .before .before .before .before .before .before .before .r1 .given .1)) .ready) (c .before .before .before .before .before .take2 .ensures ((sound-past (c .before .before .before .before .before .before .before .before .before .read-label .ensures .0) (c .before .before .before .before .before .before .before .r1 .given .1)) .ready .inside)) (c .if2 .left) (omega arith) in labels.turn-next (c .before .before .before .before .before .before .before .before .before .before .before .before .before .loop .inv) (c .before .before .before .before .before .before .before .before .before .before .take .ensures ((c .before .before .before .before .before .before .before .before .before .before .before .before .before .loop .inv) .ready .inside)) (c .before .before .before .before .before .before .before .before .before .read-label .ensures .1) (c .before .before .before .before .before .before .before .r1 .given .1) (c .before .before .before .before .before .before .before .before .before .before .before .before .before .before .before .pre .1 .2) (c .before .before .before .before .before .take2 .ensures ((sound-past (c .before .before .before .before .before .before .before .before .before .read-label .ensures .0) (c .before .before .before .before .before .before .before .r1 .given .1)) .ready .inside)) (c .if2 .left) (w .ready) (omega (arith, k .from, z .further, w .further)) (omega (arith, k .nodes, z .more, w .nodes))
 
 read-message-begin-node-requires : (t : ℕ) → read-message-lts.Need-begin-node-requires (read-message-env t) (read-message-at t) read-message.Post
 read-message-begin-node-requires t c κs = (c .before .pre .1 .0) .ready .few-nodes
@@ -471,27 +472,6 @@ read-message-store-requires t c κs = (begun-ready (c .before .before .before .b
 read-message-returns-6 : (t : ℕ) → read-message-lts.Need-returns-6 (read-message-env t) (read-message-at t) read-message.Post
 read-message-returns-6 t c = let b = (begun-ready (c .before .before .before .before .before .before .before .before .before .before .before .before .before .before .before .before .before .before .before .before .before .before .before .before .before .before .before .before .pre .1 .0) (c .before .before .before .before .before .before .before .before .before .before .before .before .before .before .before .before .before .before .before .before .before .before .before .before .before .before .begin-node .ensures) (c .before .before .before .before .before .before .before .before .before .before .before .before .before .before .before .before .before .before .before .before .before .before .before .before .r1 .given .1)) in let o = (opened-onward ((begun-ready (c .before .before .before .before .before .before .before .before .before .before .before .before .before .before .before .before .before .before .before .before .before .before .before .before .before .before .before .before .pre .1 .0) (c .before .before .before .before .before .before .before .before .before .before .before .before .before .before .before .before .before .before .before .before .before .before .before .before .before .before .begin-node .ensures) (c .before .before .before .before .before .before .before .before .before .before .before .before .before .before .before .before .before .before .before .before .before .before .before .before .r1 .given .1)) .ready) (c .before .before .before .before .before .before .before .before .before .before .before .before .before .before .before .before .before .before .before .before .before .before .bracket .ensures) (c .before .before .before .before .before .before .before .before .before .before .before .before .before .before .before .before .before .before .before .before .r2 .given .1) (omega (arith, (c .before .before .before .before .before .before .before .before .before .before .before .before .before .before .before .before .before .before .before .before .before .before .before .before .before .before .before .before .pre .1 .3)))) in let z = (sound-past (c .before .before .before .before .before .before .before .before .before .before .before .before .before .before .before .before .read-items .ensures .0) (c .before .before .before .before .before .before .before .before .before .before .before .before .before .before .r3 .given .1)) in let g = (signed-onward ((sound-past (c .before .before .before .before .before .before .before .before .before .before .before .before .before .before .before .before .read-items .ensures .0) (c .before .before .before .before .before .before .before .before .before .before .before .before .before .before .r3 .given .1)) .ready) (c .before .before .before .before .before .before .before .before .before .before .before .before .sign .ensures) (c .before .before .before .before .before .before .before .before .before .before .r4 .given .1) (omega arith)) in let k = (c .before .before .before .before .before .before .take .ensures ((signed-onward ((sound-past (c .before .before .before .before .before .before .before .before .before .before .before .before .before .before .before .before .read-items .ensures .0) (c .before .before .before .before .before .before .before .before .before .before .before .before .before .before .r3 .given .1)) .ready) (c .before .before .before .before .before .before .before .before .before .before .before .before .sign .ensures) (c .before .before .before .before .before .before .before .before .before .before .r4 .given .1) (omega arith)) .ready .inside)) in let y = (sound-past (c .before .before .before .before .before .read-type .ensures .0) (c .before .before .before .r5 .given .1)) in (sound-stored _ _ _ (omega (arith, o .0 .further, b .place, (c .before .before .before .before .before .before .before .before .before .before .before .before .before .before .before .before .before .before .before .before .before .before .before .before .before .before .before .before .pre .1 .0) .order, z .further, g .further, k .from, y .further)) (omega (arith, b .nodes, b .number, o .0 .nodes, z .more, g .nodes, k .nodes, y .more)) (b .few) (y .ready) (c .store .ensures), λ d e q x w. message-told₆ _ (c .before .before .before .before .before .before .before .before .before .before .before .before .before .before .before .before .before .before .before .before .before .before .before .before .before .before .before .before .pre .1 .0) (c .before .before .before .before .before .before .before .before .before .before .before .before .before .before .before .before .before .before .before .before .before .before .before .before .before .before .begin-node .ensures) (c .before .before .before .before .before .before .before .before .before .before .before .before .before .before .before .before .before .before .before .before .before .before .before .before .r1 .given .1) (c .before .before .before .before .before .before .before .before .before .before .before .before .before .before .before .before .before .before .before .before .before .before .bracket .ensures) (c .before .before .before .before .before .before .before .before .before .before .before .before .before .before .before .before .before .before .before .before .r2 .given .1) (c .before .before .before .before .before .before .before .before .before .before .before .before .before .before .before .before .read-items .ensures .1) (c .before .before .before .before .before .before .before .before .before .before .before .before .before .before .r3 .given .1) (c .before .before .before .before .before .before .before .before .before .before .before .before .sign .ensures) (c .before .before .before .before .before .before .before .before .before .before .r4 .given .1) k (c .before .before .before .before .before .read-type .ensures .1) (c .before .before .before .r5 .given .1) (y .ready .room-nodes) (c .store .ensures) d e q x w)
 
-read-rest-take-requires : (t : ℕ) → read-rest-lts.Need-take-requires (read-rest-env t) (read-rest-at t) read-rest.Post
-read-rest-take-requires t c κs = search needs
-
-read-rest-cast-t12 : (t : ℕ) → read-rest-lts.Need-cast-t12 (read-rest-env t) (read-rest-at t) read-rest.Post
-read-rest-cast-t12 t c = omega (arith, (c .before .before .before .before .before .pre .1 .3))
-
-read-rest-returns : (t : ℕ) → read-rest-lts.Need-returns (read-rest-env t) (read-rest-at t) read-rest.Post
-read-rest-returns t c = let k = (c .before .before .before .take .ensures ((c .before .before .before .before .before .pre .1 .0) .inside)) in (sound-step (onward-taken (c .before .before .before .before .before .pre .1 .0) k (c .if1 .taken) (omega (arith, (c .before .before .before .before .before .pre .1 .4)))) (omega (arith, (c .before .before .before .before .before .pre .1 .3))), λ d x. rest-none ((c .before .before .before .before .before .pre .1 .0) .short) d _ _ k (c .if1 .taken) x (c .before .before .before .before .before .pre .1 .3))
-
-read-rest-take-requires-2 : (t : ℕ) → read-rest-lts.Need-take-requires-2 (read-rest-env t) (read-rest-at t) read-rest.Post
-read-rest-take-requires-2 t c κs = search needs
-
-read-rest-read-item-requires : (t : ℕ) → read-rest-lts.Need-read-item-requires (read-rest-env t) (read-rest-at t) read-rest.Post
-read-rest-read-item-requires t c κs = let w = (onward-taken (c .before .before .before .before .before .before .before .before .before .before .pre .1 .0) (c .before .before .before .before .before .before .before .before .take .ensures ((c .before .before .before .before .before .before .before .before .before .before .pre .1 .0) .inside)) (c .before .before .before .if2 .taken) (omega arith)) in let k = (c .take2 .ensures ((onward-taken (c .before .before .before .before .before .before .before .before .before .before .pre .1 .0) (c .before .before .before .before .before .before .before .before .take .ensures ((c .before .before .before .before .before .before .before .before .before .before .pre .1 .0) .inside)) (c .before .before .before .if2 .taken) (omega arith)) .ready .inside)) in (omega (arith, c .before .before .before .before .before .before .before .before .before .before .pre .0, w .further, k .from, w .ready .inside), (take-ready (w .ready) k, (c .before .before .before .before .before .before .before .before .before .before .pre .1 .1), omega (arith, (c .before .before .before .before .before .before .before .before .before .before .pre .1 .2), w .nodes, k .nodes), (c .before .before .before .before .before .before .before .before .before .before .pre .1 .4)))
-
-read-rest-returns-2 : (t : ℕ) → read-rest-lts.Need-returns-2 (read-rest-env t) (read-rest-at t) read-rest.Post
-read-rest-returns-2 t c = let w = (onward-taken (c .before .before .before .before .before .before .before .before .before .before .before .pre .1 .0) (c .before .before .before .before .before .before .before .before .before .take .ensures ((c .before .before .before .before .before .before .before .before .before .before .before .pre .1 .0) .inside)) (c .before .before .before .before .if2 .taken) (omega arith)) in let k = (c .before .take2 .ensures ((onward-taken (c .before .before .before .before .before .before .before .before .before .before .before .pre .1 .0) (c .before .before .before .before .before .before .before .before .before .take .ensures ((c .before .before .before .before .before .before .before .before .before .before .before .pre .1 .0) .inside)) (c .before .before .before .before .if2 .taken) (omega arith)) .ready .inside)) in (sound-on (c .read-item .ensures .0) (omega (arith, w .further, k .from)) (omega (arith, w .nodes, k .nodes)), λ d x. rest-some ((c .before .before .before .before .before .before .before .before .before .before .before .pre .1 .0) .short) d (c .before .before .before .before .before .before .before .before .before .take .ensures ((c .before .before .before .before .before .before .before .before .before .before .before .pre .1 .0) .inside)) (c .before .before .before .before .if2 .taken) k (c .read-item .ensures .1 d x))
-
-read-rest-returns-3 : (t : ℕ) → read-rest-lts.Need-returns-3 (read-rest-env t) (read-rest-at t) read-rest.Post
-read-rest-returns-3 t c = (refused, λ d x. rest-other ((c .before .before .before .before .before .before .before .pre .1 .0) .short) d _ _ _ _ (c .before .before .before .before .before .take .ensures ((c .before .before .before .before .before .before .before .pre .1 .0) .inside)) (λ q. c .before .before .if1 .left (q ∙ sym x)) (c .if2 .left))
-
 read-type-use-name-requires : (t : ℕ) → read-type-lts.Need-use-name-requires (read-type-env t) (read-type-at t) read-type.Post
 read-type-use-name-requires t c κs = let r = (c .before .before .before .pre .1 .0) in let l = (token-long (c .before .before .before .pre .1 .0) (c .before .if1 .taken) (omega arith)) in (omega (arith, r .uses-before, r .order, r .ready .inside, r .ready .short), omega (arith, r .order, r .ready .inside, r .ready .short), r .ready .room-uses)
 
@@ -531,9 +511,9 @@ read-type-returns-6 t c = (c .read-choice2 .ensures .0, c .read-choice2 .ensures
 read-type-returns-7 : (t : ℕ) → read-type-lts.Need-returns-7 (read-type-env t) (read-type-at t) read-type.Post
 read-type-returns-7 t c = (refused, type-none ((c .before .before .before .before .before .before .before .pre .1 .0) .ready .short) _ _ (c .before .before .before .before .before .if1 .left) (c .before .before .before .before .if2 .left) (c .before .before .before .if3 .left) (c .before .before .if4 .left) (c .before .if5 .left) (c .if6 .left))
 
-pub +read-choice+read-item+read-items+read-label+read-labels+read-message+read-rest+read-type-spec :
+pub +read-choice+read-item+read-items+read-label+read-labels+read-message+read-type-spec :
     {M : Type 1} → statement M
-+read-choice+read-item+read-items+read-label+read-labels+read-message+read-rest+read-type-spec =
++read-choice+read-item+read-items+read-label+read-labels+read-message+read-type-spec =
     close
     μ-read-choice
     μ-read-item
@@ -541,7 +521,6 @@ pub +read-choice+read-item+read-items+read-label+read-labels+read-message+read-r
     μ-read-label
     μ-read-labels
     μ-read-message
-    μ-read-rest
     μ-read-type
     (λ t. read-choice-lts.spec (
       begin-node-reads.Asked,
@@ -574,8 +553,6 @@ pub +read-choice+read-item+read-items+read-label+read-labels+read-message+read-r
     (λ t. read-item-lts.spec (
       item-reads.Asked,
       item-reads.Learnt,
-      read-rest-below t,
-      read-rest.Post,
       read-type-below t,
       read-type.Post,
     )
@@ -585,26 +562,19 @@ pub +read-choice+read-item+read-items+read-label+read-labels+read-message+read-r
     (read-item-enum-known-r1 t)
     (read-item-enum-told t)
     (read-item-returns t)
+    (read-item-mul-at t)
+    (read-item-add-at t)
+    (read-item-add-at-2 t)
     (read-item-mul-nodes t)
-    (read-item-add-nodes t)
-    (read-item-add-nodes-2 t)
-    (read-item-mul-nodes-2 t)
     (read-item-element-write-nodes t)
-    (read-item-add-read-rest t)
-    (read-item-read-rest-requires t)
     (read-item-returns-2 t)
     (read-item-read-type-requires t)
     (read-item-enum-known-r2 t)
     (read-item-enum-told-2 t)
     (read-item-returns-3 t)
-    (read-item-add-nodes-3 t)
-    (read-item-mul-nodes-3 t)
-    (read-item-add-nodes-4 t)
-    (read-item-add-nodes-5 t)
-    (read-item-mul-nodes-4 t)
+    (read-item-add-nodes t)
+    (read-item-mul-nodes-2 t)
     (read-item-element-write-nodes-2 t)
-    (read-item-add-read-rest-2 t)
-    (read-item-read-rest-requires-2 t)
     (read-item-returns-4 t))
     (λ t. read-items-lts.spec (
       take-reads.Asked,
@@ -614,10 +584,23 @@ pub +read-choice+read-item+read-items+read-label+read-labels+read-message+read-r
     )
     (read-items-at t)
     read-items.Post
+    read-items-Inv-loop
+    read-items-μ-loop
     (read-items-take-requires t)
     (read-items-returns t)
+    (read-items-loop-holds t)
     (read-items-read-item-requires t)
-    (read-items-returns-2 t))
+    (read-items-enum-known-r1 t)
+    (read-items-enum-told t)
+    (read-items-returns-2 t)
+    (read-items-add-n t)
+    (read-items-take-requires-2 t)
+    (read-items-cast-t19 t)
+    (read-items-returns-3 t)
+    (read-items-returns-4 t)
+    (read-items-take-requires-3 t)
+    (read-items-loop-less t)
+    (read-items-loop-again t))
     (λ t. read-label-lts.spec (
       label-reads.Asked,
       label-reads.Learnt,
@@ -713,21 +696,6 @@ pub +read-choice+read-item+read-items+read-label+read-labels+read-message+read-r
     (read-message-returns-5 t)
     (read-message-store-requires t)
     (read-message-returns-6 t))
-    (λ t. read-rest-lts.spec (
-      take-reads.Asked,
-      take-reads.Learnt,
-      read-item-below t,
-      read-item.Post,
-    )
-    (read-rest-at t)
-    read-rest.Post
-    (read-rest-take-requires t)
-    (read-rest-cast-t12 t)
-    (read-rest-returns t)
-    (read-rest-take-requires-2 t)
-    (read-rest-read-item-requires t)
-    (read-rest-returns-2 t)
-    (read-rest-returns-3 t))
     λ t. read-type-lts.spec (
       use-name-reads.Asked,
       use-name-reads.Learnt,
