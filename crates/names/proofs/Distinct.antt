@@ -16,7 +16,8 @@ use Rattle.rules.specs.Numbering.{behind, lead, definition-leads}
 use Rattle.rules.specs.Refusals.{a-definition, Seen, unseen, seen-after, seen-from, among, name-twice, same-name}
 use Rattle.rules.specs.computed.Reading.{token-fault}
 use Rattle.rules.proofs.Basics.{same-refl, same-false, some-below-at}
-use Rattle.rules.proofs.Counting.{seen-as, plain, after-word, after-equals, after-dot, type-some, type-takes}
+use Rattle.rules.proofs.OneToken.{counted}
+use Rattle.rules.proofs.Counting.{plain, after-word, after-equals, after-dot, type-some, type-takes}
 use Rattle.rules.proofs.NamesInOrder.{symbol-word}
 use Rattle.rules.proofs.Reached.{Clear}
 use Rattle.rules.proofs.Refusals.{token-fault-lowest}
@@ -57,12 +58,12 @@ module _ {G : Type 0} where
   -- past a definition
   clear-definition :
       (w : Token) (x : Ty) (ts : List Token) (k : List Symbol) (n : ℕ) (ns : List (List ℕ))
-      → symbols ts ≡ word w ∷ sign "=" ∷ write-type x (sign "." ∷ k) → Clear (seen-as a-definition n ns []) ts
+      → symbols ts ≡ word w ∷ sign "=" ∷ write-type x (sign "." ∷ k) → Clear (counted a-definition n ns []) ts
       → (among ns (w .spelled) ≡ false → (rest : List Token) → symbols rest ≡ k
-      → Clear (seen-as a-definition (behind x n) (w .spelled ∷ ns) []) rest → G)
+      → Clear (counted a-definition (behind x n) (w .spelled ∷ ns) []) rest → G)
       → G
   clear-definition w x ts k n ns e c g =
-      let z = seen-as a-definition n ns [] in
+      let z = counted a-definition n ns [] in
       let ms = w .spelled ∷ ns in
       clear-one z ts e c (λ t ts₁ p e₁ f c₁.
       clear-one (plain ms n []) ts₁ e₁ (rw (after-word z t w p, symbol-word t w p) at c₁) (λ o ts₂ q e₂ _ c₂.
@@ -71,7 +72,7 @@ module _ {G : Type 0} where
       g (rw (← symbol-word t w p) (new-name z t f refl)) rest e₄ (rw (after-dot (plain ms (behind x n) []) u r) at c₄)))))
 
 names-fresh :
-    (x : Text) (ts : List Token) (n : ℕ) (ns : List (List ℕ)) → symbols ts ≡ write-text x → Clear (seen-as a-definition n ns []) ts → Fresh x ns
+    (x : Text) (ts : List Token) (n : ℕ) (ns : List (List ℕ)) → symbols ts ≡ write-text x → Clear (counted a-definition n ns []) ts → Fresh x ns
 names-fresh (last-definition w x) ts n ns e c = clear-definition w x ts [] n ns e c (λ f rest q r. f)
 names-fresh (definition w x ds) ts n ns e c =
     clear-definition w x ts (write-text ds) n ns e c (λ f rest q r. (f, names-fresh ds rest (behind x n) (w .spelled ∷ ns) q r))

@@ -10,10 +10,10 @@ use lib.ListN.{length, getD}
 use Rattle.rules.specs.Basics.{part}
 use Rattle.rules.specs.Words.{blank, letter, word-byte, reserved, reserved-position}
 use Rattle.rules.specs.Tokens.{Token, Symbol, word, reserved-word, one-byte, symbol, symbols, tokens}
-use Rattle.rules.specs.Notation.{Way, Ty, ended, name, message, choice, Items, no-items, sort, session, Labels, last-label, label, Text, last-definition, definition, sign, write-type, parted, write-items, write-labels, write-text, Writes}
-use Rattle.rules.specs.Refusals.{uses, uses-items, uses-labels, used-names, defined-names}
-use Rattle.rules.proofs.Links.{Each, past-uses}
-use Rattle.rules.proofs.NamesInOrder.{symbol-word}
+use Rattle.rules.specs.Notation.{Text, write-text, Writes}
+use Rattle.rules.specs.Refusals.{used-names, defined-names}
+use Rattle.rules.proofs.Links.{Each}
+use Rattle.rules.proofs.NamesInOrder.{InOrder, no-more, taken, passed, uses-in-order, defined-in-order, symbol-word}
 use Rattle.rules.proofs.TokenLists.{token-spelling}
 use Rattle.rules.proofs.TokensBehind.{past, past-from, past-stops, tokens-behind, behind-past, behind-none, behind-byte, behind-word, word-further}
 
@@ -86,45 +86,11 @@ module _ (P : Token → Type 0) where
   AllSay [] = Unit {0}
   AllSay (a ∷ k) = Says a × AllSay k
 
-  past-comma : (xs : Items) (k : List Symbol) → AllSay (parted xs k) → AllSay k
-  past-comma no-items k h = h
-  past-comma (sort s xs) k h = h .1
-  past-comma (session x xs) k h = h .1
-
-  -- then the names used in a tree are, if those behind it are
-  mutual
-    type-says : (x : Ty) (k : List Symbol) (ts : List Token) → AllSay (write-type x k) → (AllSay k → Each P ts) → Each P (uses x ts)
-    type-says ended k ts h g = g (h .1)
-    type-says (name w) k ts h g = (h .0, g (h .1))
-    type-says (message d xs x) k ts h g =
-        items-say d xs (sign ";" ∷ write-type x k) (uses x ts) (h .1 .1) (λ r. type-says x k ts (r .1) g)
-    type-says (choice d ls) k ts h g = labels-say ls k ts (h .1 .1) g
-
-    items-say :
-        (d : Way) (xs : Items) (k : List Symbol) (ts : List Token) → AllSay (write-items d xs k) → (AllSay k → Each P ts)
-        → Each P (uses-items xs ts)
-    items-say d no-items k ts h g = g (h .1)
-    items-say d (sort s xs) k ts h g = items-say d xs k ts (past-comma xs (write-items d xs k) (h .1)) g
-    items-say d (session x xs) k ts h g =
-        type-says x (parted xs (write-items d xs k)) (uses-items xs ts) h (λ r. items-say d xs k ts (past-comma xs (write-items d xs k) r) g)
-
-    labels-say :
-        (ls : Labels) (k : List Symbol) (ts : List Token) → AllSay (write-labels ls k) → (AllSay k → Each P ts) → Each P (uses-labels ls ts)
-    labels-say (last-label w x) k ts h g = type-says x (sign "}" ∷ k) ts (h .1 .1) (λ r. g (r .1))
-    labels-say (label w x ls) k ts h g =
-        type-says x (sign "|" ∷ write-labels ls k) (uses-labels ls ts) (h .1 .1) (λ r. labels-say ls k ts (r .1) g)
-
-  uses-say : (x : Text) → AllSay (write-text x) → Each P (used-names x)
-  uses-say (last-definition w x) h = type-says x (sign "." ∷ []) [] (h .1 .1) (λ r. tt)
-  uses-say (definition w x ds) h = type-says x (sign "." ∷ write-text ds) (used-names ds) (h .1 .1) (λ r. uses-say ds (r .1))
-
-  defined-say : (x : Text) → AllSay (write-text x) → Each P (defined-names x)
-  defined-say (last-definition w x) h = (h .0, tt)
-  defined-say (definition w x ds) h = (
-    h .0,
-    past-uses P x (defined-names ds)
-        (type-says x (sign "." ∷ write-text ds) (defined-names ds) (h .1 .1) (λ r. defined-say ds (r .1))),
-  )
+  -- then tokens that stand among them are
+  order-says : {ts : List Token} {k : List Symbol} → InOrder ts k → AllSay k → Each P ts
+  order-says no-more h = tt
+  order-says (taken o) h = (h .0, order-says o (h .1))
+  order-says (passed o) h = order-says o (h .1)
 
 -- the words of a text's symbols are its words
 module _ (s : List ℕ) where
@@ -148,7 +114,7 @@ module _ {s : List ℕ} {x : Text} (w : Writes s x) where
   text-says = rw (w .written) (tokens-say s [] (tokens s) refl)
 
   pub used-words : Each (IsWord s) (used-names x)
-  used-words = uses-say (IsWord s) x text-says
+  used-words = order-says (IsWord s) (uses-in-order x) text-says
 
   pub defined-words : Each (IsWord s) (defined-names x)
-  defined-words = defined-say (IsWord s) x text-says
+  defined-words = order-says (IsWord s) (defined-in-order x) text-says

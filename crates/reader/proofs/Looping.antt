@@ -9,7 +9,7 @@ use borrow.Author.Tests.{ltb-true, lt-ltb}
 use lib.Dec.{ltb}
 use lib.ListN.{length}
 use Rattle.rules.specs.Words.{reserved-words}
-use Rattle.rules.specs.Tokens.{Token, Symbol, word, reserved-word, one-byte, symbol, symbols, tokens}
+use Rattle.rules.specs.Tokens.{Token, Symbol, word, reserved-word, one-byte, symbol, symbols}
 use Rattle.rules.specs.Notation.{Text}
 use Rattle.rules.specs.Numbers.{text-most, definitions-most}
 use Rattle.rules.specs.Refusals.{a-definition, text-too-long}

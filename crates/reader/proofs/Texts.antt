@@ -1,11 +1,11 @@
 -- The definitions read so far are the beginning of a text: whatever text stands behind them, all together is one, and stands in the areas.
 -- Assumes nothing.
-use mathlib.Core.List.{List, [], _∷_}
+use mathlib.Core.List.{List, []}
 use mathlib.Core.Path.{_≡_, refl, sym, ap, _∙_}
 use Prim.Native.Nat.{ℕ, _+_, _*_, _≤_}
 use native.Mathlib.Nat.{zero-add}
 use native.Mathlib.Omega.{arith}
-use lib.ListN.{length, getD}
+use lib.ListN.{length}
 use Rattle.rules.specs.Tokens.{Token, symbols, tokens}
 use Rattle.rules.specs.Notation.{Ty, Text, last-definition, definition, write-text, Writes}
 use Rattle.rules.specs.Numbering.{behind, behind-text, definition-count}
@@ -13,13 +13,13 @@ use Rattle.rules.proofs.TokensBehind.{tokens-behind}
 use Rattle.cursor.specs.Takes.{Takes}
 use Rattle.cursor.specs.declared.Cursor.{Cursor}
 use Rattle.cursor.specs.declared.Taken.{Taken}
-use Rattle.flat.specs.Flat.{room, row, used, used-text, raw, raw-row, raw-text, Holds, Stored, StoredText, Kept}
+use Rattle.flat.specs.Flat.{room, row, used, used-text, raw-row, raw-text, Holds, Stored, StoredText, Kept}
 use Rattle.type_reader.proofs.Standing.{kept-then, kept-same}
-use Rattle.type_reader.proofs.Frames.{stored-same, used-more, holds-more}
+use Rattle.type_reader.proofs.Frames.{stored-same, used-more}
 use Rattle.type_reader.proofs.Messages.{holds-from}
+use Rattle.type_reader.proofs.Lists.{holds-then}
 use Rattle.rules.proofs.Links.{behind-more}
 use Rattle.reader.specs.Defining.{PastDefinition}
-use Rattle.reader.specs.Defining as defining
 
 -- the text x of the bytes s stands in the areas, with m definitions, k nodes and u uses
 pub record Whole (s a b d : List ℕ) (x : Text) (m k u : ℕ) : Type 0 where
@@ -57,14 +57,6 @@ open-first s a b d =
             stored = st;
           };
     }
-
--- a row and those behind it
-row-then :
-    {d : List ℕ} (i p q r : ℕ) (ns : List ℕ) → Holds d i (p ∷ q ∷ r ∷ []) → Holds d (i + 3) ns → Holds d i (p ∷ q ∷ r ∷ ns)
-row-then {d} i p q r ns h g =
-    holds-more i p _ (ap (λ j. getD d j 0) (omega arith) ∙ h .each 0 (omega arith))
-    (holds-more (i + 1) q _ (h .each 1 (omega arith))
-    (holds-more (i + 1 + 1) r ns (ap (λ j. getD d j 0) (omega arith) ∙ h .each 2 (omega arith)) (holds-from (i + 1 + 1 + 1) g (omega arith))))
 
 row-kept : {d d′ : List ℕ} (i n : ℕ) (xs : List ℕ) → Holds d i xs → Kept d d′ n → i + length xs ≤ n → Holds d′ i xs
 row-kept i n xs h k l = record { each = λ j e. k .each (i + j) (omega arith) ∙ h .each j e }
@@ -104,7 +96,7 @@ module _ {s a b d a₁ b₁ d₁ : List ℕ} {n : ℕ} {c c₁ : Cursor} {t : Ta
             let h₁ = rw (nodes-one, uses-one) at h in
             let st₁ = rw (nodes-one, uses-one) at st in
             let z = o .whole (definition w x y) a′ b′ d′ (nodes-kept ka kb kd) (uses-kept ka kb kd) (rows-kept ka kb kd) (cc (p .written, e))
-            (row-then (n * row) (w .at) (length (w .spelled)) (raw x (c .nodes) (c .uses)) (raw-text y (behind x (c .nodes)) (used x (c .uses))) (row-stored ka kb kd) (holds-from (n * row + 3) h₁ (omega arith)))
+            (holds-then (n * row) (raw-row w x (c .nodes) (c .uses) []) (raw-text y (behind x (c .nodes)) (used x (c .uses))) (row-stored ka kb kd) (holds-from (n * row + 3) h₁ (omega arith)))
             (type-stored ka kb kd, st₁) in
             record {
               writes = z .writes;

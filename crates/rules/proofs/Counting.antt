@@ -13,12 +13,9 @@ use Rattle.rules.specs.Numbering.{behind, behind-items, behind-labels, b
 use Rattle.rules.specs.Refusals.{Begins, a-definition, a-label, an-item, nothing-new, Seen, one-of, begins-behind, bracket-closed, names-after, entries-after, brackets-after, nodes-after, seen-after, seen-from, seen}
 use Rattle.rules.proofs.NamesInOrder.{symbol-word}
 use Rattle.rules.proofs.Reached.{seen-append}
+use Rattle.rules.proofs.OneToken.{counted}
 use Rattle.table.specs.declared.Sort.{Sort}
 use Rattle.table.specs.declared.Sort.the-variants.{String, Float, Boolean, Void}
-
--- what has been counted, by its parts
-abbrev pub seen-as : Begins → ℕ → List (List ℕ) → List (List (List ℕ)) → Seen
-seen-as b n ns bs = record { next = b; nodes = n; names = ns; brackets = bs }
 
 -- to unfold this is to unfold what one token counts
 one-token : Unit {0}
@@ -34,7 +31,7 @@ module _ (z : Seen) (t : Token) where
   brackets-with = entries-after (z .next) (t .spelled) (z .brackets)
 
   abbrev pub settled : Seen
-  settled = seen-as nothing-new (z .nodes) names-with brackets-with
+  settled = counted nothing-new (z .nodes) names-with brackets-with
 
   -- a token counts alike where what begins at it has been entered before
   pub settles : seen-after z t ≡ seen-after settled t
@@ -52,35 +49,35 @@ module _ (z : Seen) (t : Token) where
   after-sort Boolean e = cc
   after-sort Void e = cc
 
-  pub after-end : symbol t ≡ reserved-word end-position → seen-after z t ≡ seen-as nothing-new (suc (z .nodes)) names-with brackets-with
+  pub after-end : symbol t ≡ reserved-word end-position → seen-after z t ≡ counted nothing-new (suc (z .nodes)) names-with brackets-with
   unfolding one-token
   after-end e = cc
 
-  pub after-message : (d : Way) → symbol t ≡ message-sign d → seen-after z t ≡ seen-as nothing-new (suc (z .nodes)) names-with brackets-with
+  pub after-message : (d : Way) → symbol t ≡ message-sign d → seen-after z t ≡ counted nothing-new (suc (z .nodes)) names-with brackets-with
   unfolding one-token
   after-message into e = cc
   after-message out e = cc
 
-  pub after-choice : (d : Way) → symbol t ≡ choice-sign d → seen-after z t ≡ seen-as nothing-new (suc (z .nodes)) names-with brackets-with
+  pub after-choice : (d : Way) → symbol t ≡ choice-sign d → seen-after z t ≡ counted nothing-new (suc (z .nodes)) names-with brackets-with
   unfolding one-token
   after-choice into e = cc
   after-choice out e = cc
 
-  pub after-opening : (d : Way) → symbol t ≡ opening d → seen-after z t ≡ seen-as an-item (z .nodes) names-with ([] ∷ brackets-with)
+  pub after-opening : (d : Way) → symbol t ≡ opening d → seen-after z t ≡ counted an-item (z .nodes) names-with ([] ∷ brackets-with)
   unfolding one-token
   after-opening into e = cc
   after-opening out e = cc
 
-  pub after-closing : (d : Way) → symbol t ≡ closing d → seen-after z t ≡ seen-as nothing-new (z .nodes) names-with (bracket-closed brackets-with)
+  pub after-closing : (d : Way) → symbol t ≡ closing d → seen-after z t ≡ counted nothing-new (z .nodes) names-with (bracket-closed brackets-with)
   unfolding one-token
   after-closing into e = cc
   after-closing out e = cc
 
-  pub after-open-brace : symbol t ≡ sign "{" → seen-after z t ≡ seen-as a-label (z .nodes) names-with ([] ∷ brackets-with)
+  pub after-open-brace : symbol t ≡ sign "{" → seen-after z t ≡ counted a-label (z .nodes) names-with ([] ∷ brackets-with)
   unfolding one-token
   after-open-brace e = cc
 
-  pub after-close-brace : symbol t ≡ sign "}" → seen-after z t ≡ seen-as nothing-new (z .nodes) names-with (bracket-closed brackets-with)
+  pub after-close-brace : symbol t ≡ sign "}" → seen-after z t ≡ counted nothing-new (z .nodes) names-with (bracket-closed brackets-with)
   unfolding one-token
   after-close-brace e = cc
 
@@ -96,15 +93,15 @@ module _ (z : Seen) (t : Token) where
   unfolding one-token
   after-equals e = cc
 
-  pub after-comma : symbol t ≡ sign "," → seen-after z t ≡ seen-as an-item (z .nodes) names-with brackets-with
+  pub after-comma : symbol t ≡ sign "," → seen-after z t ≡ counted an-item (z .nodes) names-with brackets-with
   unfolding one-token
   after-comma e = cc
 
-  pub after-bar : symbol t ≡ sign "|" → seen-after z t ≡ seen-as a-label (z .nodes) names-with brackets-with
+  pub after-bar : symbol t ≡ sign "|" → seen-after z t ≡ counted a-label (z .nodes) names-with brackets-with
   unfolding one-token
   after-bar e = cc
 
-  pub after-dot : symbol t ≡ sign "." → seen-after z t ≡ seen-as a-definition (z .nodes) names-with brackets-with
+  pub after-dot : symbol t ≡ sign "." → seen-after z t ≡ counted a-definition (z .nodes) names-with brackets-with
   unfolding one-token
   after-dot e = cc
 
@@ -180,13 +177,13 @@ takes-type x j (t ∷ ts) e f = takes-first t (f t ts e)
 module _ (ns : List (List ℕ)) where
   -- where nothing new begins, n nodes are counted, and these brackets are open
   abbrev pub plain : ℕ → List (List (List ℕ)) → Seen
-  plain n bs = seen-as nothing-new n ns bs
+  plain n bs = counted nothing-new n ns bs
 
   -- behind an item
   pub rest-takes :
       (xs : Items) (d : Way) (ts : List Token) (k : List Symbol) (n : ℕ) (es : List (List ℕ)) (bs : List (List (List ℕ)))
       → symbols ts ≡ parted xs (write-items d xs k)
-      → ((rest : List Token) → symbols rest ≡ write-items d xs k → Takes (seen-as an-item n ns (es ∷ bs)) rest (plain (behind-items xs n) bs) k)
+      → ((rest : List Token) → symbols rest ≡ write-items d xs k → Takes (counted an-item n ns (es ∷ bs)) rest (plain (behind-items xs n) bs) k)
       → Takes (plain n (es ∷ bs)) ts (plain (behind-items xs n) bs) k
   rest-takes no-items d ts k n es bs e f = takes-sign ts e (λ o p. after-closing (plain n (es ∷ bs)) o d p) (λ rest q. takes-none q)
   rest-takes (sort s xs) d ts k n es bs e f = takes-sign ts e (λ o p. after-comma (plain n (es ∷ bs)) o p) f
@@ -199,10 +196,10 @@ module _ (ns : List (List ℕ)) where
       → ((t : Token) (rest : List Token) (cs : List (List (List ℕ))) → symbols (t ∷ rest) ≡ write-type x j
       → Takes (seen-after (plain n cs) t) rest (plain (behind x n) cs) j)
       → ((fs : List (List ℕ)) (rest : List Token) → symbols rest ≡ j → Takes (plain (behind x n) (fs ∷ bs)) rest z k)
-      → Takes (seen-as a-label n ns (es ∷ bs)) ts z k
+      → Takes (counted a-label n ns (es ∷ bs)) ts z k
   label-takes w x ts j n es bs e f g =
       takes-one ts e (λ t ts₁ p e₁.
-      rw (after-word (seen-as a-label n ns (es ∷ bs)) t w p)
+      rw (after-word (counted a-label n ns (es ∷ bs)) t w p)
       (takes-sign ts₁ e₁ (λ o q. after-colon (plain n ((t .spelled ∷ es) ∷ bs)) o q) (λ ts₂ e₂.
       takes-then (takes-type x j ts₂ e₂ (λ u rest q. f u rest ((t .spelled ∷ es) ∷ bs) q)) (λ ts₃ e₃. g (t .spelled ∷ es) ts₃ e₃))))
 
@@ -225,22 +222,22 @@ module _ (ns : List (List ℕ)) where
     -- the items of a list from one on, and what closes it
     pub items-take :
         (xs : Items) (d : Way) (ts : List Token) (k : List Symbol) (n : ℕ) (es : List (List ℕ)) (bs : List (List (List ℕ)))
-        → symbols ts ≡ write-items d xs k → Takes (seen-as an-item n ns (es ∷ bs)) ts (plain (behind-items xs n) bs) k
-    items-take no-items d ts k n es bs e = takes-sign ts e (λ o p. after-closing (seen-as an-item n ns (es ∷ bs)) o d p) (λ rest q. takes-none q)
+        → symbols ts ≡ write-items d xs k → Takes (counted an-item n ns (es ∷ bs)) ts (plain (behind-items xs n) bs) k
+    items-take no-items d ts k n es bs e = takes-sign ts e (λ o p. after-closing (counted an-item n ns (es ∷ bs)) o d p) (λ rest q. takes-none q)
     items-take (sort s xs) d ts k n es bs e =
         takes-one ts e (λ t ts₁ p e₁.
-        rw (after-sort (seen-as an-item n ns (es ∷ bs)) t s p)
+        rw (after-sort (counted an-item n ns (es ∷ bs)) t s p)
         (rest-takes xs d ts₁ k n (t .spelled ∷ es) bs e₁ (λ ts₂ e₂. items-take xs d ts₂ k n (t .spelled ∷ es) bs e₂)))
     items-take (session x xs) d ts k n es bs e =
         takes-type x (parted xs (write-items d xs k)) ts e (λ t ts₁ e₁.
-        rw (settles (seen-as an-item n ns (es ∷ bs)) t)
+        rw (settles (counted an-item n ns (es ∷ bs)) t)
         (takes-then (type-takes x t ts₁ (parted xs (write-items d xs k)) n ((t .spelled ∷ es) ∷ bs) e₁) (λ ts₂ e₂.
         rest-takes xs d ts₂ k (behind x n) (t .spelled ∷ es) bs e₂ (λ ts₃ e₃. items-take xs d ts₃ k (behind x n) (t .spelled ∷ es) bs e₃))))
 
     -- the labels of a choice from one on, and what closes it
     pub labels-take :
         (ls : Labels) (ts : List Token) (k : List Symbol) (n : ℕ) (es : List (List ℕ)) (bs : List (List (List ℕ)))
-        → symbols ts ≡ write-labels ls k → Takes (seen-as a-label n ns (es ∷ bs)) ts (plain (behind-labels ls n) bs) k
+        → symbols ts ≡ write-labels ls k → Takes (counted a-label n ns (es ∷ bs)) ts (plain (behind-labels ls n) bs) k
     labels-take (last-label w x) ts k n es bs e =
         label-takes w x ts (sign "}" ∷ k) n es bs e (λ t rest cs q. type-takes x t rest (sign "}" ∷ k) n cs q) (λ fs ts₁ e₁.
         takes-sign ts₁ e₁ (λ o q. after-close-brace (plain (behind x n) (fs ∷ bs)) o q) (λ rest q. takes-none q))
@@ -290,22 +287,22 @@ names-behind (definition w x ds) ns = names-behind ds (w .spelled ∷ ns)
 definition-takes :
     {z : Seen} (w : Token) (x : Ty) (ts : List Token) (k : List Symbol) (n : ℕ) (ns : List (List ℕ))
     → symbols ts ≡ word w ∷ sign "=" ∷ write-type x (sign "." ∷ k)
-    → ((rest : List Token) → symbols rest ≡ k → Takes (seen-as a-definition (behind x n) (w .spelled ∷ ns) []) rest z [])
-    → Takes (seen-as a-definition n ns []) ts z []
+    → ((rest : List Token) → symbols rest ≡ k → Takes (counted a-definition (behind x n) (w .spelled ∷ ns) []) rest z [])
+    → Takes (counted a-definition n ns []) ts z []
 definition-takes w x ts k n ns e f =
     takes-one ts e (λ t ts₁ p e₁.
-    rw (after-word (seen-as a-definition n ns []) t w p, symbol-word t w p)
+    rw (after-word (counted a-definition n ns []) t w p, symbol-word t w p)
     (takes-sign ts₁ e₁ (λ o q. after-equals (plain (w .spelled ∷ ns) n []) o q) (λ ts₂ e₂.
     takes-then (takes-type x (sign "." ∷ k) ts₂ e₂ (λ u rest q. type-takes (w .spelled ∷ ns) x u rest (sign "." ∷ k) n [] q)) (λ ts₃ e₃.
     takes-sign ts₃ e₃ (λ o q. after-dot (plain (w .spelled ∷ ns) (behind x n) []) o q) f))))
 
 text-takes :
     (x : Text) (ts : List Token) (n : ℕ) (ns : List (List ℕ)) → symbols ts ≡ write-text x
-    → Takes (seen-as a-definition n ns []) ts (seen-as a-definition (behind-text x n) (names-behind x ns) []) []
+    → Takes (counted a-definition n ns []) ts (counted a-definition (behind-text x n) (names-behind x ns) []) []
 text-takes (last-definition w x) ts n ns e = definition-takes w x ts [] n ns e (λ rest q. takes-none q)
 text-takes (definition w x ds) ts n ns e = definition-takes w x ts (write-text ds) n ns e (λ rest q. text-takes ds rest (behind x n) (w .spelled ∷ ns) q)
 
-pub text-counted : {s : List ℕ} {x : Text} → Writes s x → seen (tokens s) ≡ seen-as a-definition (behind-text x 0) (names-behind x []) []
+pub text-counted : {s : List ℕ} {x : Text} → Writes s x → seen (tokens s) ≡ counted a-definition (behind-text x 0) (names-behind x []) []
 text-counted {s} {x} w =
     let T = text-takes x (tokens s) 0 [] (sym (w .written)) in
     let l : 0 ≡ length (T .rest) = ap length (sym (T .written)) ∙ symbols-length (T .rest) in

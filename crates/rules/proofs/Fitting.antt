@@ -17,7 +17,8 @@ use Rattle.rules.specs.Numbers.{items-most, labels-most, text-nodes-most
 use Rattle.rules.specs.Numbering.{behind, behind-items, behind-text}
 use Rattle.rules.specs.Refusals.{a-definition, a-label, an-item, Seen, unseen, innermost, nodes-after, seen-after, seen-from, among, begins-node, word-too-long, one-too-many, label-twice, TokenFault, long-word, node-more, label-more, item-more, same-label}
 use Rattle.rules.specs.computed.Reading.{token-fault}
-use Rattle.rules.proofs.Counting.{seen-as, plain, settles, after-word, after-sort, after-message, after-choice, after-opening, after-open-brace, after-semicolon, after-colon, after-equals, after-comma, after-bar, after-dot, Takes, type-some, type-takes, items-take, text-counted}
+use Rattle.rules.proofs.OneToken.{counted}
+use Rattle.rules.proofs.Counting.{plain, settles, after-word, after-sort, after-message, after-choice, after-opening, after-open-brace, after-semicolon, after-colon, after-equals, after-comma, after-bar, after-dot, Takes, type-some, type-takes, items-take, text-counted}
 use Rattle.rules.proofs.NamesInOrder.{symbol-word}
 use Rattle.rules.proofs.Reached.{Clear}
 use Rattle.rules.proofs.Refusals.{token-fault-lowest}
@@ -133,7 +134,7 @@ module _ (s : List ℕ) where
     rest-fit :
         (xs : Items) (d : Way) (ts : List Token) (k : List Symbol) (n m : ℕ) (bs : List (List (List ℕ)))
         → symbols ts ≡ parted xs (write-items d xs k) → Sound (plain ns n bs) ts
-        → ((rest : List Token) → symbols rest ≡ write-items d xs k → Sound (seen-as an-item n ns bs) rest → FitItems xs m) → FitItems xs m
+        → ((rest : List Token) → symbols rest ≡ write-items d xs k → Sound (counted an-item n ns bs) rest → FitItems xs m) → FitItems xs m
     rest-fit no-items d ts k n m bs e S g = tt
     rest-fit (sort a xs) d ts k n m bs e S g = sound-sign ts e S (λ o p. after-comma (plain ns n bs) o p) g
     rest-fit (session x xs) d ts k n m bs e S g = sound-sign ts e S (λ o p. after-comma (plain ns n bs) o p) g
@@ -141,15 +142,15 @@ module _ (s : List ℕ) where
     -- past a label and its colon, to the first token of its type
     sound-label :
         {G : Type 0} (w : Token) (x : Ty) (ts : List Token) (j : List Symbol) (n : ℕ) (es : List (List ℕ)) (bs : List (List (List ℕ)))
-        → symbols ts ≡ word w ∷ sign ":" ∷ write-type x j → Sound (seen-as a-label n ns (es ∷ bs)) ts
+        → symbols ts ≡ word w ∷ sign ":" ∷ write-type x j → Sound (counted a-label n ns (es ∷ bs)) ts
         → (NewLabel s es w → (t : Token) (rest : List Token) → symbols (t ∷ rest) ≡ write-type x j
         → Sound (seen-after (plain ns n ((w .spelled ∷ es) ∷ bs)) t) rest → G)
         → G
     sound-label w x ts j n es bs e S g =
         sound-one ts e S (λ t ts₁ p e₁ f m R.
-        let S₁ = rw (after-word (seen-as a-label n ns (es ∷ bs)) t w p, symbol-word t w p) at R in
+        let S₁ = rw (after-word (counted a-label n ns (es ∷ bs)) t w p, symbol-word t w p) at R in
         sound-sign ts₁ e₁ S₁ (λ o q. after-colon (plain ns n ((w .spelled ∷ es) ∷ bs)) o q) (λ ts₂ e₂ S₂.
-        sound-type x j ts₂ e₂ S₂ (λ u rest q _ S₃. g (label-new (seen-as a-label n ns (es ∷ bs)) t w f refl p m) u rest q S₃)))
+        sound-type x j ts₂ e₂ S₂ (λ u rest q _ S₃. g (label-new (counted a-label n ns (es ∷ bs)) t w f refl p m) u rest q S₃)))
 
     mutual
       type-fits :
@@ -170,19 +171,19 @@ module _ (s : List ℕ) where
 
       items-fit :
           (xs : Items) (d : Way) (ts : List Token) (k : List Symbol) (n : ℕ) (es : List (List ℕ)) (bs : List (List (List ℕ)))
-          → symbols ts ≡ write-items d xs k → Sound (seen-as an-item n ns (es ∷ bs)) ts → FitItems xs (length es)
+          → symbols ts ≡ write-items d xs k → Sound (counted an-item n ns (es ∷ bs)) ts → FitItems xs (length es)
       items-fit no-items d ts k n es bs e S = tt
       items-fit (sort a xs) d ts k n es bs e S =
           sound-one ts e S (λ t ts₁ p e₁ f _ S₁. (
-            few-items (seen-as an-item n ns (es ∷ bs)) t f refl,
-            rest-fit xs d ts₁ k n (suc (length es)) ((t .spelled ∷ es) ∷ bs) e₁ (rw (after-sort (seen-as an-item n ns (es ∷ bs)) t a p) at S₁) (λ ts₂ e₂ S₂.
+            few-items (counted an-item n ns (es ∷ bs)) t f refl,
+            rest-fit xs d ts₁ k n (suc (length es)) ((t .spelled ∷ es) ∷ bs) e₁ (rw (after-sort (counted an-item n ns (es ∷ bs)) t a p) at S₁) (λ ts₂ e₂ S₂.
                 items-fit xs d ts₂ k n (t .spelled ∷ es) bs e₂ S₂),
           ))
       items-fit (session x xs) d ts k n es bs e S =
           let j = parted xs (write-items d xs k) in
           sound-type x j ts e S (λ t ts₁ e₁ f R.
-          let S₁ = rw (settles (seen-as an-item n ns (es ∷ bs)) t) at R in (
-            few-items (seen-as an-item n ns (es ∷ bs)) t f refl,
+          let S₁ = rw (settles (counted an-item n ns (es ∷ bs)) t) at R in (
+            few-items (counted an-item n ns (es ∷ bs)) t f refl,
             type-fits x t ts₁ j n ((t .spelled ∷ es) ∷ bs) e₁ S₁,
             sound-past (type-takes ns x t ts₁ j n ((t .spelled ∷ es) ∷ bs) e₁) S₁ (λ ts₂ e₂ S₂.
                 rest-fit xs d ts₂ k (behind x n) (suc (length es)) ((t .spelled ∷ es) ∷ bs) e₂ S₂ (λ ts₃ e₃ S₃.
@@ -191,7 +192,7 @@ module _ (s : List ℕ) where
 
       labels-fit :
           (ls : Labels) (ts : List Token) (k : List Symbol) (n : ℕ) (es : List (List ℕ)) (bs : List (List (List ℕ)))
-          → symbols ts ≡ write-labels ls k → Sound (seen-as a-label n ns (es ∷ bs)) ts → FitLabels ls es
+          → symbols ts ≡ write-labels ls k → Sound (counted a-label n ns (es ∷ bs)) ts → FitLabels ls es
       labels-fit (last-label w x) ts k n es bs e S =
           sound-label w x ts (sign "}" ∷ k) n es bs e S (λ new t rest q R.
           (new, type-fits x t rest (sign "}" ∷ k) n ((w .spelled ∷ es) ∷ bs) q R))
@@ -209,16 +210,16 @@ module _ (s : List ℕ) where
   -- past a definition's name and `=`, to the first token of its type
   sound-definition :
       {G : Type 0} (w : Token) (x : Ty) (ts : List Token) (j : List Symbol) (n : ℕ) (ns : List (List ℕ))
-      → symbols ts ≡ word w ∷ sign "=" ∷ write-type x j → Sound (seen-as a-definition n ns []) ts
+      → symbols ts ≡ word w ∷ sign "=" ∷ write-type x j → Sound (counted a-definition n ns []) ts
       → ((t : Token) (rest : List Token) → symbols (t ∷ rest) ≡ write-type x j → Sound (seen-after (plain (w .spelled ∷ ns) n []) t) rest → G)
       → G
   sound-definition w x ts j n ns e S g =
       sound-one ts e S (λ t ts₁ p e₁ f m R.
-      let S₁ = rw (after-word (seen-as a-definition n ns []) t w p, symbol-word t w p) at R in
+      let S₁ = rw (after-word (counted a-definition n ns []) t w p, symbol-word t w p) at R in
       sound-sign ts₁ e₁ S₁ (λ o q. after-equals (plain (w .spelled ∷ ns) n []) o q) (λ ts₂ e₂ S₂.
       sound-type x j ts₂ e₂ S₂ (λ u rest q _ S₃. g u rest q S₃)))
 
-  text-fits : (x : Text) (ts : List Token) (n : ℕ) (ns : List (List ℕ)) → symbols ts ≡ write-text x → Sound (seen-as a-definition n ns []) ts → FitText x
+  text-fits : (x : Text) (ts : List Token) (n : ℕ) (ns : List (List ℕ)) → symbols ts ≡ write-text x → Sound (counted a-definition n ns []) ts → FitText x
   text-fits (last-definition w x) ts n ns e S =
       let j = sign "." ∷ [] in
       sound-definition w x ts j n ns e S (λ t rest q R. type-fits (w .spelled ∷ ns) x t rest j n [] q R)

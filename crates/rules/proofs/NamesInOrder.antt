@@ -58,11 +58,11 @@ mutual
   labels-use (last-label w x) h = passed (passed (type-uses x (passed h)))
   labels-use (label w x ls) h = passed (passed (type-uses x (passed (labels-use ls h))))
 
-uses-in-order : (x : Text) → InOrder (used-names x) (write-text x)
+pub uses-in-order : (x : Text) → InOrder (used-names x) (write-text x)
 uses-in-order (last-definition w x) = passed (passed (type-uses x no-more))
 uses-in-order (definition w x ds) = passed (passed (type-uses x (passed (uses-in-order ds))))
 
-defined-in-order : (x : Text) → InOrder (defined-names x) (write-text x)
+pub defined-in-order : (x : Text) → InOrder (defined-names x) (write-text x)
 defined-in-order (last-definition w x) = taken no-more
 defined-in-order (definition w x ds) = taken (passed (past-type x (passed (defined-in-order ds))))
 

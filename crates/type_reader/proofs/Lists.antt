@@ -82,7 +82,7 @@ list-ended a b k from to r =
     }
 
 -- numbers one behind the other
-holds-then : {a : List ℕ} (i : ℕ) (xs ys : List ℕ) → Holds a i xs → Holds a (i + length xs) ys → Holds a i (xs ++ ys)
+pub holds-then : {a : List ℕ} (i : ℕ) (xs ys : List ℕ) → Holds a i xs → Holds a (i + length xs) ys → Holds a i (xs ++ ys)
 holds-then i [] ys h g = holds-from i g (omega arith)
 holds-then {a} i (v ∷ xs) ys h g =
     holds-more i v (xs ++ ys) (ap (λ n. getD a n 0) (omega arith) ∙ h .each 0 (omega arith))

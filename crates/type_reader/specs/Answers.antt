@@ -8,7 +8,7 @@ use Prim.Native.Char.{code}
 use Prim.Native.Nat.{ℕ, suc, _+_, _*_, _<_, _≤_}
 use lib.ListN.{length}
 use Rattle.rules.specs.Tokens.{Token, Symbol, word, reserved-word, symbol, symbols}
-use Rattle.rules.specs.Notation.{Way, into, out, Ty, Items, Labels, label, sign, sort-position, write-type, write-items, write-labels}
+use Rattle.rules.specs.Notation.{Way, into, out, Ty, Items, Labels, sign, sort-position, write-type, write-items, write-labels}
 use Rattle.rules.specs.Numbers.{text-most, text-nodes-most, labels-most, items-most}
 use Rattle.rules.specs.Numbering.{behind, behind-items, behind-labels}
 use Rattle.rules.specs.Refusals.{Begins, a-label, an-item, nothing-new, innermost, entries-after}
