@@ -1,5 +1,5 @@
 // Reading a text: from its bytes to its table, or to the refusal that goes first.
-pub mod definitions;
+mod definitions;
 
 use crate::definitions::read_definitions;
 use flat::DEFINITIONS_MOST;

@@ -1,5 +1,6 @@
 -- `table_maker::label_from` meets its contract.
 -- Assumes nothing.
+use mathlib.Core.Path.{refl}
 use Rattle.table_maker.specs.Making.{label-from}
 use borrow.Author.Needs.{needs}
 use Rattle.table_maker.proofs.label_from.Statement.{statement}
@@ -39,7 +40,7 @@ cast-t17 : tie.Need-cast-t17
 cast-t17 c = search needs
 
 returns : tie.Need-returns
-returns c = simp (label-from, c .before .before .node-of .ensures)
+returns c = rw (label-from, c .before .before .node-of .ensures) refl
 
 pub label-from-spec : {M : Type 1} → statement M
 label-from-spec =
