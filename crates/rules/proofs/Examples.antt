@@ -1,20 +1,28 @@
 -- Worked examples of the definitions, beside the starred rows: the session that hands itself over, and the missing label.
 -- Assumes nothing.
+use mathlib.Core.Bool.{true}
 use mathlib.Core.List.{List, [], _∷_}
 use mathlib.Core.Path.{_≡_, refl}
 use Prim.Native.Nat.{ℕ}
 use Prim.Native.String.{String}
+use native.Mathlib.Omega.{arith}
 use Rattle.rules.proofs.Computes.{computes}
+use Rattle.rules.proofs.DualUnfolds.{original-same, dual-unfolds}
+use Rattle.rules.proofs.Formed.{formed}
 use Rattle.rules.proofs.Starred.{Holds, compared, R, N, M, P, Q}
 use Rattle.rules.specs.Basics.{bytes, fill}
 use Rattle.rules.specs.Numbers.{items-most, table-nodes-most}
 use Rattle.rules.specs.Tables.{blank-slot, blank-labels, blank-node}
+use Rattle.rules.specs.Formed.{well-formed}
+use Rattle.rules.specs.Dual.{dual}
+use Rattle.rules.specs.Unfolding.{SameByUnfolding, DualByUnfolding}
 use Rattle.rules.specs.Replies.{made, dual-reply, missing-label}
 use Rattle.rules.specs.computed.Reading.{reading}
 use Rattle.table.specs.declared.Kind.{Kind}
 use Rattle.table.specs.declared.Kind.the-variants.{Receive, Send}
 use Rattle.table.specs.declared.Item.the-variants.{Session}
 use Rattle.table.specs.declared.Node.{Node}
+use Rattle.table.specs.declared.Table.{Table}
 use Rattle.table.specs.declared.answers.Verdict.the-variants.{No}
 
 abbrev pub A : String
@@ -43,6 +51,34 @@ pub own-dual :
     })
 unfolding computes
 own-dual = refl
+
+-- by unfolding too: it is dual to A, and what it carries is A itself
+abbrev own-table : Table
+own-table = reading (bytes A) .table
+
+own-formed : well-formed own-table (bytes A) ≡ true
+unfolding computes
+own-formed = refl
+
+pub own-unfolds : DualByUnfolding own-table (bytes A) (dual own-table) (bytes A) 0 0
+unfolding computes
+own-unfolds = dual-unfolds own-table (bytes A) own-formed
+
+pub own-carried : SameByUnfolding own-table (bytes A) (dual own-table) (bytes A) 0 2
+unfolding computes
+own-carried = original-same (formed own-formed) refl 0 (omega arith)
+
+-- Figure 4 to the letter has `A = ?(A); end .`, where the name stands for the turned session also as an item. That is not dual by unfolding.
+abbrev by-the-letter : Table
+by-the-letter = reading (bytes "A = ?(A); end .") .table
+
+pub letter-not-dual : DualByUnfolding own-table (bytes A) by-the-letter (bytes A) 0 0 → ⊥
+unfolding computes
+letter-not-dual D =
+    let item = D .keeps .each 0 0 (D .holds) .each-item 0 (omega arith) in
+    let e : Receive ≡ Send = item .keeps .each 0 0 (item .holds) .kind in
+    let z : _≡_ {A = ℕ} 0 1 = cc in
+    omega arith
 
 -- each pair is reached in both turns
 pub own-session : Holds (compared A A "yes 4\n")

@@ -4,9 +4,14 @@ pub mod Starred
 pub mod Examples
 pub mod Basics
 pub mod Words
+pub mod Filling
 pub mod Tables
 pub mod FormedTests
 pub mod Formed
+pub mod Remade
+pub mod DualFormed
+pub mod DualUnfolds
+pub mod DualTwice
 pub mod Pairs
 pub mod Steps
 pub mod Runs

@@ -1,11 +1,14 @@
--- What a reply means: a yes that new may replace old, a no that it may not; and likewise for compatible, through the dual.
+-- What a reply means: a yes that new may replace old, a no that it may not; when the dual is refused and when it is given; and what a yes
+-- and a no mean for compatible, through the dual.
 -- Assumes nothing.
 use mathlib.Core.Bool.{Bool, true, false}
 use mathlib.Core.List.{List}
 use mathlib.Core.Option.{some}
-use mathlib.Core.Path.{_≡_, sym, ap, subst}
-use Prim.Native.Nat.{ℕ}
+use mathlib.Core.Path.{_≡_, refl, sym, ap, subst}
+use Prim.Native.Nat.{ℕ, _+_, _<_, _≤_}
 use lib.Dec.{ltb}
+use borrow.Author.Tests.{lt-ltb, le-ltb}
+use Rattle.rules.proofs.Formed.{formed}
 use Rattle.rules.proofs.Replies.{made-not-refused, yes-means, no-means}
 use Rattle.rules.proofs.Smallest.{closed-no-mismatch}
 use Rattle.rules.specs.Dual.{dual, dual-count, hands-over}
@@ -26,6 +29,32 @@ module _ {new : Table} {new-names : List ℕ} {old : Table} {old-names : List �
   pub no-may-not-replace :
       {f : Found} → Replaces new new-names old old-names before after (the.No f) → MayReplace new new-names old old-names → ⊥
   no-may-not-replace r m = let X = no-means r .1 in X .wrong (closed-no-mismatch (m .closed) (X .run) (X .end) (X .runs))
+
+-- What the dual is refused for, and what it is given for: each exactly then.
+module _ (t : Table) (names : List ℕ) where
+  pub dual-not-formed : well-formed t names ≡ false → dual-reply t names ≡ refused not-well-formed 1
+  unfolding dual-reply
+  dual-not-formed f = rw (dual-reply, f) refl
+
+  pub dual-large : well-formed t names ≡ true → table-nodes-most < dual-count (hands-over t) (t .count) → dual-reply t names ≡ refused dual-too-large (t .count)
+  unfolding dual-reply
+  dual-large f l = rw (dual-reply, f, lt-ltb table-nodes-most (dual-count (hands-over t) (t .count)) l) refl
+
+  pub dual-given : well-formed t names ≡ true → dual-count (hands-over t) (t .count) ≤ table-nodes-most → dual-reply t names ≡ made (dual t)
+  unfolding dual-reply
+  dual-given f l = rw (dual-reply, f, le-ltb table-nodes-most (dual-count (hands-over t) (t .count)) l) refl
+
+  -- without session items it is given for every well formed table; with any, for at most half of the nodes that there is room for
+  pub dual-without-items : well-formed t names ≡ true → hands-over t ≡ false → dual-reply t names ≡ made (dual t)
+  dual-without-items f e = dual-given f (rw e (formed f .few-nodes))
+
+  pub dual-with-items : well-formed t names ≡ true → hands-over t ≡ true → t .count + t .count ≤ table-nodes-most → dual-reply t names ≡ made (dual t)
+  dual-with-items f e l = dual-given f (rw e l)
+
+  pub dual-items-many :
+      well-formed t names ≡ true → hands-over t ≡ true → table-nodes-most < t .count + t .count
+      → dual-reply t names ≡ refused dual-too-large (t .count)
+  dual-items-many f e l = dual-large f (rw e l)
 
 -- a dual that is handed back is the dual
 pub made-dual : (t : Table) (names : List ℕ) (u : Table) → dual-reply t names ≡ made u → u ≡ dual t

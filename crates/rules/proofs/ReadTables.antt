@@ -3,10 +3,10 @@
 use mathlib.Core.Bool.{true, false≢true}
 use mathlib.Core.List.{List, [], _∷_, _++_}
 use mathlib.Core.Path.{_≡_, refl, sym, ap, _∙_}
-use Prim.Native.Nat.{ℕ, zero, suc, _+_, _-_, _<_, _≤_}
+use Prim.Native.Nat.{ℕ, zero, suc, _+_, _<_, _≤_}
 use native.Mathlib.Omega.{arith}
-use lib.ListN.{length, getD, replicate, length-append, List·getD-append}
-use Rattle.rules.specs.Basics.{same, fill}
+use lib.ListN.{length, getD, length-append}
+use Rattle.rules.specs.Basics.{same}
 use Rattle.rules.specs.Words.{may-name}
 use Rattle.rules.specs.Tokens.{Token}
 use Rattle.rules.specs.Notation.{Way, into, out, Ty, ended, name, message, choice, Items, no-items, sort, session, Labels, last-label, label, Text, last-definition, definition}
@@ -17,6 +17,7 @@ use Rattle.rules.specs.Refusals.{uses, uses-items, uses-labels, used-nam
 use Rattle.rules.specs.Formed.{well-formed}
 use Rattle.rules.specs.Replies.{Reads, made}
 use Rattle.rules.proofs.Basics.{same-refl, some-below-at}
+use Rattle.rules.proofs.Filling.{fill-at}
 use Rattle.rules.proofs.Fitting.{Named, NewLabel, Fits, FitItems, FitLabels, FitText, text-fit, text-nodes}
 use Rattle.rules.proofs.Formed.{FormedNode, WellFormed, no-message, no-choice, formed-true}
 use Rattle.rules.proofs.Links.{behind-more, behind-items-more, behind-labels-more, behind-text-more, Each, past-uses, past-uses-items, GetsTo, link-below, uses-get-to}
@@ -63,10 +64,6 @@ each-at P d (a ∷ l) h (suc i) m = each-at P d l (h .1) i (omega arith)
 each-append : {A : Type 0} (P : A → Type 0) (l m : List A) → Each P l → Each P m → Each P (l ++ m)
 each-append P [] m g h = h
 each-append P (a ∷ l) m g h = (g .0, each-append P l m (g .1) h)
-
--- what a filled list holds below its own length
-fill-at : {A : Type 0} (n : ℕ) (d e : A) (l : List A) (i : ℕ) → i < length l → getD (fill n e l) i d ≡ getD l i d
-fill-at n d e l i m = List·getD-append l (replicate (n - length l) e) d i m
 
 -- a tree of the text t, of which s are the name bytes
 module _ (t : Text) (s : List ℕ) where

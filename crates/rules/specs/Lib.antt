@@ -9,6 +9,7 @@ pub mod Numbering
 pub mod Formed
 pub mod Refusals
 pub mod Dual
+pub mod Unfolding
 pub mod Pairs
 pub mod Runs
 pub mod Replace

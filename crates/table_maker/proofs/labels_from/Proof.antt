@@ -5,7 +5,7 @@ use mathlib.Core.Path.{_≡_}
 use Prim.Native.Nat.{_-_, _≤_}
 use native.Mathlib.Omega.{arith}
 use Rattle.table_maker.specs.Making.{labels-from}
-use Rattle.table_maker.proofs.Filling.{fills-none, fills-one, fills-all}
+use Rattle.rules.proofs.Filling.{fills-none, fills-one, fills-all}
 use Rattle.table_maker.proofs.labels_from.Statement.{statement}
 use Rattle.table_maker.proofs.labels_from.Tie as tie
 

@@ -11,7 +11,7 @@ use Rattle.rules.specs.Numbers.{table-nodes-most}
 use Rattle.rules.specs.Tables.{blank-node}
 use Rattle.table.specs.declared.Node.{Node}
 use Rattle.table_maker.specs.Making.{node-from, table-from}
-use Rattle.table_maker.proofs.Filling.{fills-none, fills-one, fills-all}
+use Rattle.rules.proofs.Filling.{fills-none, fills-one, fills-all}
 use Rattle.table_maker.proofs.table_from.Statement.{statement}
 use Rattle.table_maker.proofs.table_from.Tie as tie
 
