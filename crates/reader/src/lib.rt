@@ -2,6 +2,7 @@
 mod definitions;
 
 use crate::definitions::read_definitions;
+use blanks::refused;
 use flat::DEFINITIONS_MOST;
 use flat::DEFINITIONS_ROOM;
 use flat::ROW;
@@ -10,7 +11,6 @@ use names::find_ends;
 use names::find_owners;
 use table::answers::Answer;
 use table::answers::Made;
-use table_maker::refused;
 use table_maker::table_from;
 use type_reader::Got;
 ghost use Rattle.rules.specs.Notation.{Text};

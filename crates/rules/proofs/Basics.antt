@@ -107,6 +107,22 @@ some-below-at n p i l e = lt-ltb (first n p) n (go (decLt i (first n p)))
     go (yes b) = absurd (false≢true (sym (first-found n p .before i b) ∙ e))
     go (no h) = omega arith
 
+-- a loop that looks for a position that passes: where it stops, as it goes on, at its end
+module _ (p : ℕ → Bool) where
+  pub some-met : (n i : ℕ) {r : Bool} → i < n → r ≡ p i → r ≡ true → true ≡ some-below n p
+  some-met n i l e f = sym (some-below-at n p i l (sym e ∙ f))
+
+  pub none-met : (i : ℕ) {r : Bool} → ((j : ℕ) → j < i → p j ≡ false) → r ≡ p i → r ≡ false → (j : ℕ) → j < i + 1 → p j ≡ false
+  none-met i all e f = below-more (λ j. p j ≡ false) i all (sym e ∙ f)
+
+  pub none-at-all : (n i : ℕ) → n ≤ i → ((j : ℕ) → j < i → p j ≡ false) → false ≡ some-below n p
+  none-at-all n i l all =
+      sym
+      (bool-eq-false
+      (λ h.
+      let m = some-below-true n p h in
+      false≢true (sym (all (m .0) (omega (arith, m .1))) ∙ m .2)))
+
 pub same-true : (a b : List ℕ) → same a b ≡ true → a ≡ b
 unfolding same
 same-true [] [] e = refl

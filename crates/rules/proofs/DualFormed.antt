@@ -88,7 +88,9 @@ module _ {t : Table} {names : List ℕ} (w : WellFormed t names) where
       n : dual t .count ≡ t .count + t .count
       n = dual-size t e
 
-      links : (i : ℕ) → i < t .count → (j k : ℕ) → j < item-count (node-at t i) → item-at (node-at t i) j ≡ Session k → k + t .count < t .count + t .count
+      links :
+          (i : ℕ) → i < t .count → (j k : ℕ) → j < item-count (node-at t i) → item-at (node-at t i) j ≡ Session k
+          → k + t .count < t .count + t .count
       links i h j k m s = omega (arith, w .each i h .message .item-links j k m s)
 
       second : (i : ℕ) → i < t .count → FormedNode (t .count + t .count) names (node-at (dual t) (i + t .count))
@@ -104,7 +106,8 @@ module _ {t : Table} {names : List ℕ} (w : WellFormed t names) where
           let p : i ≡ (i - t .count) + t .count = omega arith in
           rw p (second (i - t .count) (omega arith))
 
-pub dual-formed : (t : Table) (names : List ℕ) → well-formed t names ≡ true → dual t .count ≤ table-nodes-most → well-formed (dual t) names ≡ true
+pub dual-formed :
+    (t : Table) (names : List ℕ) → well-formed t names ≡ true → dual t .count ≤ table-nodes-most → well-formed (dual t) names ≡ true
 dual-formed t names f few = formed-true (go (hands-over t) refl)
   where
     go : (b : Bool) → hands-over t ≡ b → WellFormed (dual t) names

@@ -74,7 +74,8 @@ module _ (t : Table) (e : hands-over t ≡ false) where
       session (OfSort s) h = absurd (false≢true h)
       session (Session k) h = (k, refl)
 
-      at-node : (i : ℕ) → i < t .count → (j : ℕ) → j < item-count (node-at (dual t) i) → is-session (item-at (node-at (dual t) i) j) ≡ true → ⊥
+      at-node :
+          (i : ℕ) → i < t .count → (j : ℕ) → j < item-count (node-at (dual t) i) → is-session (item-at (node-at (dual t) i) j) ≡ true → ⊥
       at-node i l j m h =
           let T : Likewise (t .count) 0 (node-at t i) (node-at (dual t) i) = rw (dual-turned t i l) (turned-likewise (t .count) (node-at t i)) in
           let n : j < item-count (node-at t i) = omega (arith, T .items) in

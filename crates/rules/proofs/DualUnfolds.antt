@@ -114,7 +114,8 @@ module _ {t : Table} {names : List ℕ} (w : WellFormed t names) where
   node-dual : (i : ℕ) → i < t .count → DualByUnfolding t names (dual t) names i i
   node-dual i l = record { set = dual-set; keeps = turned-keeps; holds = is-further (t .count) 0 i i l (omega arith) }
 
-pub dual-unfolds : (t : Table) (names : List ℕ) → well-formed t names ≡ true → DualByUnfolding t names (dual t) names (t .start) (dual t .start)
+pub dual-unfolds :
+    (t : Table) (names : List ℕ) → well-formed t names ≡ true → DualByUnfolding t names (dual t) names (t .start) (dual t .start)
 dual-unfolds t names f =
     let w = formed f in
     subst (λ (j : ℕ). DualByUnfolding t names (dual t) names (t .start) j) (sym (dual-start t)) (node-dual w (t .start) (w .begins))

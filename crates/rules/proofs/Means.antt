@@ -36,7 +36,9 @@ module _ (t : Table) (names : List ℕ) where
   unfolding dual-reply
   dual-not-formed f = rw (dual-reply, f) refl
 
-  pub dual-large : well-formed t names ≡ true → table-nodes-most < dual-count (hands-over t) (t .count) → dual-reply t names ≡ refused dual-too-large (t .count)
+  pub dual-large :
+      well-formed t names ≡ true → table-nodes-most < dual-count (hands-over t) (t .count)
+      → dual-reply t names ≡ refused dual-too-large (t .count)
   unfolding dual-reply
   dual-large f l = rw (dual-reply, f, lt-ltb table-nodes-most (dual-count (hands-over t) (t .count)) l) refl
 
@@ -48,7 +50,8 @@ module _ (t : Table) (names : List ℕ) where
   pub dual-without-items : well-formed t names ≡ true → hands-over t ≡ false → dual-reply t names ≡ made (dual t)
   dual-without-items f e = dual-given f (rw e (formed f .few-nodes))
 
-  pub dual-with-items : well-formed t names ≡ true → hands-over t ≡ true → t .count + t .count ≤ table-nodes-most → dual-reply t names ≡ made (dual t)
+  pub dual-with-items :
+      well-formed t names ≡ true → hands-over t ≡ true → t .count + t .count ≤ table-nodes-most → dual-reply t names ≡ made (dual t)
   dual-with-items f e l = dual-given f (rw e l)
 
   pub dual-items-many :

@@ -111,7 +111,8 @@ module _ (t : Table) where
   dual-original e i l = rw e (second-of-two table-nodes-most no-node blank-node (t .count) (t .count) turned original i l)
 
   -- whoever has a session item is a table that hands over
-  pub session-somewhere : (i j k : ℕ) → i < t .count → j < item-count (node-at t i) → item-at (node-at t i) j ≡ Session k → hands-over t ≡ true
+  pub session-somewhere :
+      (i j k : ℕ) → i < t .count → j < item-count (node-at t i) → item-at (node-at t i) j ≡ Session k → hands-over t ≡ true
   unfolding hands-over hands-over-at
   session-somewhere i j k l m e =
       some-below-at (t .count) (λ i. hands-over-at (node-at t i)) i l

@@ -1,5 +1,8 @@
 // The table, made from the numbers that the readers wrote (see the crate `flat`). Each function answers the definition of its name in
 // specs/Making.antt; that they make the text's table is proved in proofs/FromText.antt.
+use blanks::BLANK_LABEL;
+use blanks::BLANK_SLOT;
+use blanks::blank_node;
 use flat::A_SESSION;
 use flat::A_USE;
 use flat::COUNT;
@@ -19,54 +22,12 @@ use table::Node;
 use table::Slot;
 use table::Sort;
 use table::Table;
-use table::answers::Answer;
-use table::answers::Made;
 ghost use mathlib.Core.Path.{_≡_};
 ghost use Prim.Native.Nat.{_+_, _<_};
 ghost use Rattle.rules.specs.Numbers.{text-most, text-nodes-most};
-ghost use Rattle.rules.specs.Tables.{blank-node};
-ghost use Rattle.rules.specs.Replies.{refused};
 ghost use Rattle.flat.specs.Flat.{a-session};
 ghost use Rattle.table_maker.specs.Making.{sort-of, kind-of, node-of, slot-from, label-from, items-from, labels-from, message-from, choice-from, node-from, table-from, count-number};
 ghost use Rattle.table_maker.specs.Making.{links-end, Owned, ItemsOk, LabelOk, MessageOk, LabelsOk, RowOk, TableOk};
-
-const BLANK_SLOT: Slot = Slot {
-    item: Item::OfSort(Sort::String),
-};
-
-const BLANK_LABEL: Label = Label {
-    at: 0,
-    len: 0,
-    to: 0,
-};
-
-// "whatever makes a table fills it with 0 (`end`, `string`)"
-fn blank_node() -> Node
-    ensures { λ r. ⌜ r ≡ blank-node ⌝ }
-{
-    Node {
-        kind: Kind::End,
-        items: [BLANK_SLOT; ITEMS_MOST],
-        item_count: 0,
-        labels: [BLANK_LABEL; LABELS_MOST],
-        label_count: 0,
-        next: 0,
-    }
-}
-
-// "Beside a refusal the table has no nodes and start 0."
-pub fn refused(number: usize, place: usize) -> Made
-    ensures { λ r. ⌜ r ≡ refused number place ⌝ }
-{
-    Made {
-        table: Table {
-            nodes: [blank_node(); NODES_MOST],
-            count: 0,
-            start: 0,
-        },
-        answer: Answer::Refused { number, place },
-    }
-}
 
 // The node that a link leads to: the node of that number, or where the definition leads that the use of that number names.
 fn node_of(link: usize, owners: &[u8; TEXT_MOST], ends: &[u8; DEFINITIONS_MOST]) -> u8

@@ -1,4 +1,4 @@
--- `table_maker::refused` meets its contract.
+-- `blanks::refused` meets its contract.
 -- Assumes nothing.
 use mathlib.Core.Path.{ap}
 use lib.ListN.{replicate}
@@ -6,8 +6,8 @@ use Rattle.rules.specs.Numbers.{table-nodes-most}
 use Rattle.table.specs.declared.answers.Answer.the-variants.{Refused}
 use Rattle.table.specs.declared.Node.{Node}
 use borrow.Author.Needs.{needs}
-use Rattle.table_maker.proofs.refused.Statement.{statement}
-use Rattle.table_maker.proofs.refused.Tie as tie
+use Rattle.blanks.proofs.refused.Statement.{statement}
+use Rattle.blanks.proofs.refused.Tie as tie
 
 blank-node-requires : tie.Need-blank-node-requires
 blank-node-requires c κs = search needs
