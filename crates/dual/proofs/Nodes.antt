@@ -13,7 +13,7 @@ use Rattle.rules.specs.Basics.{listed, fill}
 use Rattle.rules.specs.Numbers.{table-nodes-most}
 use Rattle.rules.specs.Tables.{blank-node, node-at, item-count, label-count, continuation, is-message}
 use Rattle.rules.specs.Formed.{well-formed}
-use Rattle.rules.specs.Dual.{hands-over, originals, remade, turned-node, original-node, dual-count, dual}
+use Rattle.rules.specs.Dual.{turned-kind, hands-over, originals, remade, turned-node, original-node, dual-count, dual}
 use Rattle.rules.specs.Refusals.{dual-too-large}
 use Rattle.rules.specs.Replies.{refused, dual-reply}
 use Rattle.rules.proofs.Filling.{listed-same, listed-append, fills-one}
@@ -26,6 +26,7 @@ use Rattle.table.specs.declared.Label.{Label}
 use Rattle.table.specs.declared.Node.{Node}
 use Rattle.table.specs.declared.Table.{Table}
 use Rattle.table.specs.declared.answers.Answer.the-variants.{Accepted}
+use Rattle.table.specs.declared.answers.Made.{Made}
 
 -- the continuation, where there is none and where there is one
 module _ (m : ℕ) (x : Node) {r : Bool} (e : r ≡ is-message (x .kind)) where
@@ -45,6 +46,9 @@ pub node-remade :
     → record { kind = k; items = items; «item_count» = a; labels = labels; «label_count» = b; next = c } ≡ remade k i m x
 unfolding remade
 node-remade k i m x p q r s u = rw (p, q, r, s, u) refl
+
+pub node-turned : (n : ℕ) (x : Node) {k : Kind} {y : Node} → k ≡ turned-kind (x .kind) → y ≡ remade k n 0 x → y ≡ turned-node n x
+node-turned n x e p = p ∙ ap (λ (k : Kind). remade k n 0 x) e
 
 -- the nodes of a dual with its originals, by their numbers
 module _ (t : Table) where
@@ -124,10 +128,10 @@ module _ (t : Table) (names : List ℕ) (f : well-formed t names ≡ true) where
 
   -- what is answered, from what was found of the table
   pub dual-refusal :
-      {b : Bool} {n : ℕ} → b ≡ hands-over t → n ≡ dual-count b (t .count) → table-nodes-most < n
-      → refused dual-too-large (t .count) ≡ dual-reply t names
-  dual-refusal e q l =
-      let many : table-nodes-most < dual-count (hands-over t) (t .count) = rw (← e, ← q) l in sym (dual-large t names f many)
+      {b : Bool} {n : ℕ} {r : Made} → b ≡ hands-over t → n ≡ dual-count b (t .count) → table-nodes-most < n
+      → r ≡ refused dual-too-large (t .count) → r ≡ dual-reply t names
+  dual-refusal e q l p =
+      let many : table-nodes-most < dual-count (hands-over t) (t .count) = rw (← e, ← q) l in p ∙ sym (dual-large t names f many)
 
   pub dual-answer :
       {b : Bool} {ns : List Node} {n : ℕ} → b ≡ hands-over t → ns ≡ dual-nodes b t → n ≡ dual-count b (t .count) → n ≤ table-nodes-most

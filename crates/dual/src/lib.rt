@@ -246,10 +246,10 @@ pub fn dual(t: Table, names: &[u8]) -> Made
         return refused(NOT_WELL_FORMED, 1);
     }
     let both = hands_over(t);
-    let n = t.count;
-    let count = dual_count(both, n);
+    let n = t.count as usize;
+    let count = dual_count(both, t.count);
     if NODES_MOST < count {
-        return refused(DUAL_TOO_LARGE, n as usize);
+        return refused(DUAL_TOO_LARGE, n);
     }
     Made {
         table: Table {

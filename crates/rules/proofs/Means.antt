@@ -7,8 +7,10 @@ use mathlib.Core.Option.{some}
 use mathlib.Core.Path.{_≡_, refl, sym, ap, subst}
 use Prim.Native.Nat.{ℕ, _+_, _<_, _≤_}
 use lib.Dec.{ltb}
-use borrow.Author.Tests.{lt-ltb, le-ltb}
+use borrow.Author.Tests.{lt-ltb, le-ltb, ltb-false}
+use Rattle.rules.proofs.DualFormed.{dual-formed}
 use Rattle.rules.proofs.Formed.{formed}
+use Rattle.rules.proofs.Remade.{dual-size}
 use Rattle.rules.proofs.Replies.{made-not-refused, yes-means, no-means}
 use Rattle.rules.proofs.Smallest.{closed-no-mismatch}
 use Rattle.rules.specs.Dual.{dual, dual-count, hands-over}
@@ -59,21 +61,33 @@ module _ (t : Table) (names : List ℕ) where
       → dual-reply t names ≡ refused dual-too-large (t .count)
   dual-items-many f e l = dual-large f (rw e l)
 
--- a dual that is handed back is the dual
-pub made-dual : (t : Table) (names : List ℕ) (u : Table) → dual-reply t names ≡ made u → u ≡ dual t
+-- a dual that is handed back: no refusal applied, and it is the dual
+pub given-means :
+    (t : Table) (names : List ℕ) (u : Table) → dual-reply t names ≡ made u
+    → (well-formed t names ≡ true) × (dual-count (hands-over t) (t .count) ≤ table-nodes-most) × (u ≡ dual t)
 unfolding dual-reply
-made-dual t names u e = go (well-formed t names) (ltb table-nodes-most (dual-count (hands-over t) (t .count))) e
+given-means t names u e =
+    go (well-formed t names) (ltb table-nodes-most (dual-count (hands-over t) (t .count))) refl refl e
   where
     go :
-        (b c : Bool)
+        (b c : Bool) → well-formed t names ≡ b → ltb table-nodes-most (dual-count (hands-over t) (t .count)) ≡ c
         → elim b as (λ z. Made) [
           | false ↦ refused not-well-formed 1
           | true ↦ elim c as (λ z. Made) [ true ↦ refused dual-too-large (t .count) | false ↦ made (dual t) ]
         ] ≡ made u
-        → u ≡ dual t
-    go false c e = absurd (made-not-refused (sym e))
-    go true true e = absurd (made-not-refused (sym e))
-    go true false e = ap (λ (m : Made). m .table) (sym e)
+        → (well-formed t names ≡ true) × (dual-count (hands-over t) (t .count) ≤ table-nodes-most) × (u ≡ dual t)
+    go false c f l e = absurd (made-not-refused (sym e))
+    go true true f l e = absurd (made-not-refused (sym e))
+    go true false f l e = (f, ltb-false _ _ l, ap (λ (m : Made). m .table) (sym e))
+
+pub made-dual : (t : Table) (names : List ℕ) (u : Table) → dual-reply t names ≡ made u → u ≡ dual t
+made-dual t names u e = given-means t names u e .2
+
+-- and it is well formed with the same name bytes, so that nobody is refused for it
+pub given-formed : (t : Table) (names : List ℕ) (u : Table) → dual-reply t names ≡ made u → well-formed u names ≡ true
+given-formed t names u e =
+    let g = given-means t names u e in
+    rw (g .2) (dual-formed t names (g .0) (rw (dual-size t refl) (g .1)))
 
 module _ {new : Table} {new-names : List ℕ} {other : Table} {other-names : List ℕ} {before after : Areas} where
   pub yes-compatible :
