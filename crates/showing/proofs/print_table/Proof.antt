@@ -1,15 +1,15 @@
--- `read_cases::show::print_table` is safe and ends.
+-- `showing::print_table` is safe and ends.
 -- Assumes nothing.
 use borrow.Author.Needs.{needs}
 use Prim.Native.Nat.{_≤_, _-_}
-use Rattle.read_cases.proofs.show.print_table.Statement.{statement}
-use Rattle.read_cases.proofs.show.print_table.Tie as tie
+use Rattle.showing.proofs.print_table.Statement.{statement}
+use Rattle.showing.proofs.print_table.Tie as tie
 
 abbrev Inv-loop : tie.InvT-loop
-Inv-loop text places t n i₀ t9 i = i ≤ n
+Inv-loop names places t n i₀ t9 i = i ≤ n
 
 abbrev μ-loop : tie.MeasureT-loop
-μ-loop text places t n i₀ t9 i = n - i
+μ-loop names places t n i₀ t9 i = n - i
 
 slice-aggregate-write-all : tie.Need-slice-aggregate-write-all Inv-loop μ-loop
 slice-aggregate-write-all c = search needs

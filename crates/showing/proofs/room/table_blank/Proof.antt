@@ -1,27 +1,30 @@
--- `read_cases::room::labels_blank` is safe and ends.
+-- `showing::room::table_blank` is safe and ends.
 -- Assumes nothing.
 use borrow.Author.Needs.{needs}
 use Prim.Native.Nat.{_≤_, _-_}
-use Rattle.read_cases.proofs.room.labels_blank.Statement.{statement}
-use Rattle.read_cases.proofs.room.labels_blank.Tie as tie
+use Rattle.showing.proofs.room.table_blank.Statement.{statement}
+use Rattle.showing.proofs.room.table_blank.Tie as tie
 
 abbrev Inv-loop : tie.InvT-loop
-Inv-loop from x i₀ i = from ≤ i
+Inv-loop t n i₀ i = i ≤ 128
 
 abbrev μ-loop : tie.MeasureT-loop
-μ-loop from x i₀ i = 16 - i
+μ-loop t n i₀ i = 128 - i
+
+cast-n : tie.Need-cast-n Inv-loop μ-loop
+cast-n c = search needs
 
 loop-holds : tie.Need-loop-holds Inv-loop μ-loop
 loop-holds c = search needs
 
-mul-label : tie.Need-mul-label Inv-loop μ-loop
-mul-label c = search needs
+mul-x : tie.Need-mul-x Inv-loop μ-loop
+mul-x c = search needs
 
-element-copy-out-label : tie.Need-element-copy-out-label Inv-loop μ-loop
-element-copy-out-label c = search needs
+element-copy-out-x : tie.Need-element-copy-out-x Inv-loop μ-loop
+element-copy-out-x c = search needs
 
-label-blank-requires : tie.Need-label-blank-requires Inv-loop μ-loop
-label-blank-requires c κs = search needs
+node-blank-requires : tie.Need-node-blank-requires Inv-loop μ-loop
+node-blank-requires c κs = search needs
 
 returns : tie.Need-returns Inv-loop μ-loop
 returns c = search needs
@@ -38,16 +41,17 @@ loop-again c = search needs
 returns-2 : tie.Need-returns-2 Inv-loop μ-loop
 returns-2 c = search needs
 
-pub labels-blank-spec : {M : Type 1} → statement M
-labels-blank-spec =
+pub table-blank-spec : {M : Type 1} → statement M
+table-blank-spec =
     tie.close
     (tie.spec
     Inv-loop
     μ-loop
+    cast-n
     loop-holds
-    mul-label
-    element-copy-out-label
-    label-blank-requires
+    mul-x
+    element-copy-out-x
+    node-blank-requires
     returns
     add-i
     loop-less

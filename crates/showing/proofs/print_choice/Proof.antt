@@ -1,15 +1,15 @@
--- `read_cases::show::print_choice` is safe and ends.
+-- `showing::print_choice` is safe and ends.
 -- Assumes nothing.
 use borrow.Author.Needs.{needs}
 use Prim.Native.Nat.{_≤_, _-_}
-use Rattle.read_cases.proofs.show.print_choice.Statement.{statement}
-use Rattle.read_cases.proofs.show.print_choice.Tie as tie
+use Rattle.showing.proofs.print_choice.Statement.{statement}
+use Rattle.showing.proofs.print_choice.Tie as tie
 
 abbrev Inv-loop : tie.InvT-loop
-Inv-loop sign text places x n i₀ t9 i = i ≤ n
+Inv-loop sign names places x n i₀ t9 i = i ≤ n
 
 abbrev μ-loop : tie.MeasureT-loop
-μ-loop sign text places x n i₀ t9 i = n - i
+μ-loop sign names places x n i₀ t9 i = n - i
 
 write-all-requires : tie.Need-write-all-requires Inv-loop μ-loop
 write-all-requires c κs = search needs

@@ -1,9 +1,9 @@
--- `read_cases::show::print_message` is safe and ends.
+-- `showing::print_message` is safe and ends.
 -- Assumes nothing.
 use borrow.Author.Needs.{needs}
 use Prim.Native.Nat.{_≤_, _-_}
-use Rattle.read_cases.proofs.show.print_message.Statement.{statement}
-use Rattle.read_cases.proofs.show.print_message.Tie as tie
+use Rattle.showing.proofs.print_message.Statement.{statement}
+use Rattle.showing.proofs.print_message.Tie as tie
 
 abbrev Inv-loop : tie.InvT-loop
 Inv-loop sign x n i₀ t8 i = i ≤ n
