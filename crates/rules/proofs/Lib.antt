@@ -12,6 +12,7 @@ pub mod Remade
 pub mod DualFormed
 pub mod DualUnfolds
 pub mod DualTwice
+pub mod DualSame
 pub mod Pairs
 pub mod Steps
 pub mod Runs
