@@ -2,7 +2,7 @@
 -- Assumes nothing.
 use borrow.Author.Tests.{lt-ltb, le-ltb}
 use mathlib.Core.Bool.{Bool, true, false}
-use mathlib.Core.List.{List, _++_, append-nil}
+use mathlib.Core.List.{List, append-nil}
 use mathlib.Core.Path.{_≡_, refl, sym, ap, _∙_}
 use Prim.Native.Nat.{ℕ, _+_, _-_, _<_, _≤_}
 use native.Mathlib.Nat.{add-zero, add-sub-cancel-left}
@@ -13,13 +13,13 @@ use Rattle.rules.specs.Basics.{listed, fill}
 use Rattle.rules.specs.Numbers.{table-nodes-most}
 use Rattle.rules.specs.Tables.{blank-node, node-at, item-count, label-count, continuation, is-message}
 use Rattle.rules.specs.Formed.{well-formed}
-use Rattle.rules.specs.Dual.{turned-kind, hands-over, originals, remade, turned-node, original-node, dual-count, dual}
+use Rattle.rules.specs.Dual.{turned-kind, hands-over, moved-items, moved-labels, moved-continuation, remade, turned-node, original-node, dual-nodes, dual-count, dual}
 use Rattle.rules.specs.Refusals.{dual-too-large}
 use Rattle.rules.specs.Replies.{refused, dual-reply}
-use Rattle.rules.proofs.Filling.{listed-same, listed-append, fills-one}
+use Rattle.rules.proofs.Filling.{listed-equal, listed-append, fills-one}
 use Rattle.rules.proofs.Formed.{formed}
 use Rattle.rules.proofs.Means.{dual-large, dual-given}
-use Rattle.dual.specs.Making.{moved-items, moved-labels, moved-continuation, turned-nodes, both-nodes, dual-nodes, NodesFit}
+use Rattle.dual.specs.Making.{turned-nodes, NodesFit}
 use Rattle.table.specs.declared.Kind.{Kind}
 use Rattle.table.specs.declared.Slot.{Slot}
 use Rattle.table.specs.declared.Label.{Label}
@@ -52,18 +52,20 @@ node-turned n x e p = p ∙ ap (λ (k : Kind). remade k n 0 x) e
 
 -- the nodes of a dual with its originals, by their numbers
 module _ (t : Table) where
-  unfoldable pub node-of-both : ℕ → Node
-  node-of-both i =
-      elim (ltb i (t .count)) [
-        | true ↦ turned-node (t .count) (node-at t i)
-        | false ↦ original-node (t .count) (node-at t (i - t .count))
-      ]
+  abbrev turned : ℕ → Node
+  turned i = turned-node (t .count) (node-at t i)
 
-  in-first : (i : ℕ) → i < t .count → node-of-both i ≡ turned-node (t .count) (node-at t i)
+  abbrev original : ℕ → Node
+  original i = original-node (t .count) (node-at t i)
+
+  unfoldable pub node-of-both : ℕ → Node
+  node-of-both i = elim (ltb i (t .count)) [ true ↦ turned i | false ↦ original (i - t .count) ]
+
+  in-first : (i : ℕ) → i < t .count → node-of-both i ≡ turned i
   unfolding node-of-both
   in-first i l = rw (node-of-both, lt-ltb i (t .count) l) refl
 
-  in-second : (i : ℕ) → node-of-both (t .count + i) ≡ original-node (t .count) (node-at t i)
+  in-second : (i : ℕ) → node-of-both (t .count + i) ≡ original i
   unfolding node-of-both
   in-second i = rw (node-of-both, le-ltb (t .count + i) (t .count) (omega arith), add-sub-cancel-left (t .count) i) refl
 
@@ -75,31 +77,25 @@ module _ (t : Table) where
   turned-there e =
       e
       ∙ ap (fill table-nodes-most blank-node)
-      (sym (listed-same (t .count) node-of-both (λ i. turned-node (t .count) (node-at t i)) in-first)
-      ∙ ap (λ (n : ℕ). listed n node-of-both) (sym (add-zero (t .count))))
+      (listed-equal (t .count) (t .count + 0) turned node-of-both (sym (add-zero (t .count))) (λ i l. sym (in-first i l)))
 
   pub one-original :
-      (i : ℕ) {l : List Node} {x : Node} → t .count + i < table-nodes-most → l ≡ both-until i → x ≡ original-node (t .count) (node-at t i)
+      (i : ℕ) {l : List Node} {x : Node} → t .count + i < table-nodes-most → l ≡ both-until i → x ≡ original i
       → set l (t .count + i) x ≡ both-until (i + 1)
   one-original i {l} {x} m e f =
       let p : t .count + (i + 1) ≡ (t .count + i) + 1 = omega arith in
       rw p (fills-one blank-node table-nodes-most node-of-both (t .count + i) l x m e (f ∙ sym (in-second i)))
 
-  pub both-there : (i : ℕ) {l : List Node} → l ≡ both-until i → i ≡ t .count → l ≡ both-nodes t
+  pub both-there : (i : ℕ) {l : List Node} → l ≡ both-until i → i ≡ t .count → l ≡ dual-nodes true t
   both-there i e q =
       e
       ∙ ap (fill table-nodes-most blank-node)
       (ap (λ (n : ℕ). listed (t .count + n) node-of-both) q
-      ∙ sym
-      (listed-append (t .count) (t .count) (λ i. turned-node (t .count) (node-at t i)) (λ i. original-node (t .count) (node-at t i)) node-of-both in-first (λ i l. in-second i)))
+      ∙ sym (listed-append (t .count) (t .count) turned original node-of-both in-first (λ i l. in-second i)))
 
-  -- which are the nodes of the dual, with the originals and without
-  pub dual-nodes-are :
-      (b : Bool)
-      → dual-nodes b t ≡ fill table-nodes-most blank-node (listed (t .count) (λ i. turned-node (t .count) (node-at t i)) ++ originals b t)
-  dual-nodes-are true = refl
-  dual-nodes-are false =
-      ap (fill table-nodes-most blank-node) (sym (append-nil (listed (t .count) (λ i. turned-node (t .count) (node-at t i)))))
+  -- without the originals nothing stands behind the turned nodes
+  pub turned-alone : turned-nodes t ≡ dual-nodes false t
+  turned-alone = ap (fill table-nodes-most blank-node) (sym (append-nil (listed (t .count) turned)))
 
 -- a well formed table
 module _ (t : Table) (names : List ℕ) (f : well-formed t names ≡ true) where
@@ -139,4 +135,4 @@ module _ (t : Table) (names : List ℕ) (f : well-formed t names ≡ true) where
   unfolding dual
   dual-answer {b} e p q l =
       let few : dual-count (hands-over t) (t .count) ≤ table-nodes-most = rw (← e, ← q) l in
-      rw (p, q, e, dual-nodes-are t (hands-over t)) (sym (dual-given t names f few))
+      rw (p, q, e) (sym (dual-given t names f few))

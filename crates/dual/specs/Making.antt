@@ -1,42 +1,20 @@
 -- What is made on the way to a dual, and what nodes must be for that.
 -- Assumes nothing.
-use mathlib.Core.Bool.{Bool, true, false}
-use mathlib.Core.List.{List, _++_}
+use mathlib.Core.List.{List}
 use mathlib.Core.Path.{_≡_}
-use Prim.Native.Nat.{ℕ, _+_, _<_, _≤_}
+use Prim.Native.Nat.{ℕ, _<_, _≤_}
 use Rattle.rules.specs.Basics.{listed, fill}
 use Rattle.rules.specs.Numbers.{items-most, labels-most, table-nodes-most}
-use Rattle.rules.specs.Tables.{blank-slot, blank-label, blank-node, node-at, item-count, item-at, label-count, label-at, continuation, is-message, only-if}
-use Rattle.rules.specs.Dual.{moved-item, moved-label, turned-node, original-node}
+use Rattle.rules.specs.Tables.{blank-node, node-at, item-count, item-at, label-count, label-at, continuation}
+use Rattle.rules.specs.Dual.{turned-node}
 use Rattle.table.specs.declared.Item.{Item}
 use Rattle.table.specs.declared.Item.the-variants.{Session}
-use Rattle.table.specs.declared.Slot.{Slot}
-use Rattle.table.specs.declared.Label.{Label}
 use Rattle.table.specs.declared.Node.{Node}
 use Rattle.table.specs.declared.Table.{Table}
 
--- the lists and the continuation of a node, moved
-abbrev pub moved-items : ℕ → Node → List Slot
-moved-items i x = fill items-most blank-slot (listed (item-count x) (λ j. record { item = moved-item i (item-at x j) }))
-
-abbrev pub moved-labels : ℕ → Node → List Label
-moved-labels m x = fill labels-most blank-label (listed (label-count x) (λ j. moved-label m (label-at x j)))
-
-abbrev pub moved-continuation : ℕ → Node → ℕ
-moved-continuation m x = only-if (is-message (x .kind)) (continuation x + m)
-
--- the nodes of a dual: the turned ones alone, and both
+-- the turned nodes of a dual, with nothing behind them
 abbrev pub turned-nodes : Table → List Node
 turned-nodes t = fill table-nodes-most blank-node (listed (t .count) (λ i. turned-node (t .count) (node-at t i)))
-
-abbrev pub both-nodes : Table → List Node
-both-nodes t =
-    fill table-nodes-most blank-node
-    (listed (t .count) (λ i. turned-node (t .count) (node-at t i)) ++ listed (t .count) (λ i. original-node (t .count) (node-at t i)))
-
-abbrev pub dual-nodes : Bool → Table → List Node
-dual-nodes true t = both-nodes t
-dual-nodes false t = turned-nodes t
 
 -- What an item, a node's lists, a node and a table must be to be made anew: as many items and labels as there is room for, and links
 -- below 128, so that a link that is at most 128 more is a byte still. Those of a well formed table are.

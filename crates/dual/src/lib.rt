@@ -21,13 +21,14 @@ use table::Slot;
 use table::Table;
 use table::answers::Answer;
 use table::answers::Made;
+ghost use mathlib.Core.Bool.{true};
 ghost use mathlib.Core.Path.{_≡_};
 ghost use Prim.Native.Nat.{_+_, _≤_};
 ghost use Rattle.rules.specs.Numbers.{table-nodes-most};
 ghost use Rattle.rules.specs.Tables.{continuation};
-ghost use Rattle.rules.specs.Dual.{turned-kind, is-session, hands-over-at, hands-over, moved-item, moved-label, remade, turned-node, original-node, dual-count};
+ghost use Rattle.rules.specs.Dual.{turned-kind, is-session, hands-over-at, hands-over, moved-item, moved-label, moved-items, moved-labels, moved-continuation, remade, turned-node, original-node, dual-nodes, dual-count};
 ghost use Rattle.rules.specs.Replies.{dual-reply};
-ghost use Rattle.dual.specs.Making.{ItemFits, LinkFits, ItemsFit, LabelsFit, NodeFits, NodesFit, moved-items, moved-labels, moved-continuation, turned-nodes, both-nodes, dual-nodes};
+ghost use Rattle.dual.specs.Making.{ItemFits, LinkFits, ItemsFit, LabelsFit, NodeFits, NodesFit, turned-nodes};
 
 // The column "No." of document 01's refusal list.
 const NOT_WELL_FORMED: usize = 10;
@@ -203,7 +204,7 @@ fn turned_nodes(t: Table) -> [Node; NODES_MOST]
 // "then the originals in order"
 fn with_originals(t: Table) -> [Node; NODES_MOST]
     requires { ⌜ NodesFit t × (t .count + t .count ≤ table-nodes-most) ⌝ }
-    ensures { λ r. ⌜ r ≡ both-nodes t ⌝ }
+    ensures { λ r. ⌜ r ≡ dual-nodes true t ⌝ }
 {
     let n = t.count;
     let count = n as usize;

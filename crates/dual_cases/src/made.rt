@@ -2,36 +2,15 @@
 use dual::dual;
 use showing::print_made;
 use showing::room::print_room;
-use table::ITEMS_MOST;
+use showing::rubbish::rubbish;
 use table::Item;
 use table::Kind;
-use table::LABELS_MOST;
 use table::Label;
 use table::NODES_MOST;
 use table::Node;
 use table::Slot;
 use table::Sort;
 use table::Table;
-
-// A node whose every number is as large as it can be.
-fn rubbish(kind: Kind) -> Node {
-    let label = Label {
-        at: 65535,
-        len: 255,
-        to: 255,
-    };
-    let slot = Slot {
-        item: Item::Session(255),
-    };
-    Node {
-        kind,
-        items: [slot; ITEMS_MOST],
-        item_count: 255,
-        labels: [label; LABELS_MOST],
-        label_count: 255,
-        next: 255,
-    }
-}
 
 // A message of one item, and a choice of one label of two bytes, their unused room full of rubbish.
 fn message(item: Item, next: u8) -> Node {
@@ -49,7 +28,7 @@ fn choice(to: u8) -> Node {
     x
 }
 
-// `&{go: ?(item); end}` in three nodes, which starts at the second: the message.
+// `+{go: ?(item); end}` in three nodes. It starts at the second, the message.
 fn three(item: Item) -> Table {
     let mut nodes = [rubbish(Kind::Send); NODES_MOST];
     nodes[0] = choice(1);

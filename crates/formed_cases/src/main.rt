@@ -1,6 +1,7 @@
 // What document 01 calls well formed: each limit at its number and one above, words and reserved words, labels that are and are not
 // twice in one choice, and anything at all in unused room. The file `stdout` has what each must be, written from document 01.
 use formed::well_formed;
+use showing::rubbish::rubbish;
 use table::ITEMS_MOST;
 use table::Item;
 use table::Kind;
@@ -18,26 +19,6 @@ fn tell(what: &[u8], t: Table, names: &[u8]) {
         io::write_all(1, b": yes\n");
     } else {
         io::write_all(1, b": no\n");
-    }
-}
-
-// A node whose every number is as large as it can be.
-fn rubbish(kind: Kind) -> Node {
-    let label = Label {
-        at: 65535,
-        len: 255,
-        to: 255,
-    };
-    let slot = Slot {
-        item: Item::Session(255),
-    };
-    Node {
-        kind,
-        items: [slot; ITEMS_MOST],
-        item_count: 255,
-        labels: [label; LABELS_MOST],
-        label_count: 255,
-        next: 255,
     }
 }
 

@@ -69,10 +69,10 @@ unfolding computes
 own-carried = original-same (formed own-formed) refl 0 (omega arith)
 
 -- Figure 4 to the letter has `A = ?(A); end .`, where the name stands for the turned session also as an item. That is not dual by unfolding.
-abbrev by-the-letter : Table
-by-the-letter = reading (bytes "A = ?(A); end .") .table
+abbrev pub by-the-letter : String
+by-the-letter = "A = ?(A); end ."
 
-pub letter-not-dual : DualByUnfolding own-table (bytes A) by-the-letter (bytes A) 0 0 → ⊥
+pub letter-not-dual : DualByUnfolding own-table (bytes A) (reading (bytes by-the-letter) .table) (bytes by-the-letter) 0 0 → ⊥
 unfolding computes
 letter-not-dual D =
     let item = D .keeps .each 0 0 (D .holds) .each-item 0 (omega arith) in

@@ -29,6 +29,9 @@ module _ {A : Type 0} where
   listed-same (suc n) f g h =
       ap₂ {C = List A} _∷_ (h 0 (omega arith)) (listed-same n (λ i. f (suc i)) (λ i. g (suc i)) (λ i l. h (suc i) (omega arith)))
 
+  pub listed-equal : (n m : ℕ) (f g : ℕ → A) → n ≡ m → ((i : ℕ) → i < n → f i ≡ g i) → listed n f ≡ listed m g
+  listed-equal n m f g e h = listed-same n f g h ∙ ap (λ (k : ℕ). listed k g) e
+
   -- a list in two parts, made by one function
   pub listed-append :
       (n m : ℕ) (f g h : ℕ → A) → ((i : ℕ) → i < n → h i ≡ f i) → ((i : ℕ) → i < m → h (n + i) ≡ g i)

@@ -12,7 +12,6 @@ pub mod Remade
 pub mod DualFormed
 pub mod DualUnfolds
 pub mod DualTwice
-pub mod DualSame
 pub mod Pairs
 pub mod Steps
 pub mod Runs
@@ -46,5 +45,6 @@ pub mod OneVerdict
 pub mod OneCompatible
 pub mod OneLine
 pub mod Means
+pub mod DualSame
 pub mod Hollow
 pub mod RuledOut

@@ -4,10 +4,11 @@
 use mathlib.Core.Bool.{Bool, true, false}
 use mathlib.Core.List.{List}
 use mathlib.Core.Option.{some}
-use mathlib.Core.Path.{_≡_, refl, sym, ap, subst}
+use mathlib.Core.Path.{_≡_, refl, sym, ap, _∙_, subst}
 use Prim.Native.Nat.{ℕ, _+_, _<_, _≤_}
-use lib.Dec.{ltb}
-use borrow.Author.Tests.{lt-ltb, le-ltb, ltb-false}
+use native.Mathlib.Decide.{decLt}
+use native.Mathlib.Omega.{arith}
+use borrow.Author.Tests.{lt-ltb, le-ltb}
 use Rattle.rules.proofs.DualFormed.{dual-formed}
 use Rattle.rules.proofs.Formed.{formed}
 use Rattle.rules.proofs.Remade.{dual-size}
@@ -65,20 +66,16 @@ module _ (t : Table) (names : List ℕ) where
 pub given-means :
     (t : Table) (names : List ℕ) (u : Table) → dual-reply t names ≡ made u
     → (well-formed t names ≡ true) × (dual-count (hands-over t) (t .count) ≤ table-nodes-most) × (u ≡ dual t)
-unfolding dual-reply
-given-means t names u e =
-    go (well-formed t names) (ltb table-nodes-most (dual-count (hands-over t) (t .count))) refl refl e
+given-means t names u e = go (well-formed t names) refl (decLt table-nodes-most (dual-count (hands-over t) (t .count)))
   where
     go :
-        (b c : Bool) → well-formed t names ≡ b → ltb table-nodes-most (dual-count (hands-over t) (t .count)) ≡ c
-        → elim b as (λ z. Made) [
-          | false ↦ refused not-well-formed 1
-          | true ↦ elim c as (λ z. Made) [ true ↦ refused dual-too-large (t .count) | false ↦ made (dual t) ]
-        ] ≡ made u
+        (b : Bool) → well-formed t names ≡ b → Dec (table-nodes-most < dual-count (hands-over t) (t .count))
         → (well-formed t names ≡ true) × (dual-count (hands-over t) (t .count) ≤ table-nodes-most) × (u ≡ dual t)
-    go false c f l e = absurd (made-not-refused (sym e))
-    go true true f l e = absurd (made-not-refused (sym e))
-    go true false f l e = (f, ltb-false _ _ l, ap (λ (m : Made). m .table) (sym e))
+    go false f d = absurd (made-not-refused (sym e ∙ dual-not-formed t names f))
+    go true f (yes l) = absurd (made-not-refused (sym e ∙ dual-large t names f l))
+    go true f (no l) =
+        let few : dual-count (hands-over t) (t .count) ≤ table-nodes-most = omega arith in
+        (f, few, ap (λ (m : Made). m .table) (sym e ∙ dual-given t names f few))
 
 pub made-dual : (t : Table) (names : List ℕ) (u : Table) → dual-reply t names ≡ made u → u ≡ dual t
 made-dual t names u e = given-means t names u e .2

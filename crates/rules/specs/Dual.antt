@@ -10,6 +10,7 @@ use Rattle.table.specs.declared.Kind.{Kind}
 use Rattle.table.specs.declared.Kind.the-variants.{End, Receive, Send, Branch, Choose}
 use Rattle.table.specs.declared.Item.{Item}
 use Rattle.table.specs.declared.Item.the-variants.{OfSort, Session}
+use Rattle.table.specs.declared.Slot.{Slot}
 use Rattle.table.specs.declared.Label.{Label}
 use Rattle.table.specs.declared.Node.{Node}
 use Rattle.table.specs.declared.Table.{Table}
@@ -42,16 +43,27 @@ moved-item m (Session k) = Session (k + m)
 abbrev pub moved-label : ℕ → Label → Label
 moved-label m l = record { at = l .at; len = l .len; to = l .to + m }
 
--- A node made anew with the kind k: session items link i more, labels and the continuation m more; "labels and lists stay".
+-- the lists of a node whose session items link i more, and whose labels link m more: "labels and lists stay"
+abbrev pub moved-items : ℕ → Node → List Slot
+moved-items i x = fill items-most blank-slot (listed (item-count x) (λ j. record { item = moved-item i (item-at x j) }))
+
+abbrev pub moved-labels : ℕ → Node → List Label
+moved-labels m x = fill labels-most blank-label (listed (label-count x) (λ j. moved-label m (label-at x j)))
+
+-- and its continuation, where it has one
+abbrev pub moved-continuation : ℕ → Node → ℕ
+moved-continuation m x = only-if (is-message (x .kind)) (continuation x + m)
+
+-- A node made anew with the kind k: session items link i more, labels and the continuation m more.
 unfoldable pub remade : Kind → ℕ → ℕ → Node → Node
 remade k i m x =
     record {
       kind = k;
-      items = fill items-most blank-slot (listed (item-count x) (λ j. record { item = moved-item i (item-at x j) }));
+      items = moved-items i x;
       «item_count» = item-count x;
-      labels = fill labels-most blank-label (listed (label-count x) (λ j. moved-label m (label-at x j)));
+      labels = moved-labels m x;
       «label_count» = label-count x;
-      next = only-if (is-message (x .kind)) (continuation x + m);
+      next = moved-continuation m x;
     }
 
 -- "continuations and choices go on as duals": they link to turned nodes, which keep their numbers; "a session item is not turned round":
@@ -63,10 +75,13 @@ turned-node n x = remade (turned-kind (x .kind)) n 0 x
 abbrev pub original-node : ℕ → Node → Node
 original-node n x = remade (x .kind) n n x
 
--- "the turned nodes first, then the originals in order"
 abbrev pub originals : Bool → Table → List Node
 originals true t = listed (t .count) (λ i. original-node (t .count) (node-at t i))
 originals false t = []
+
+-- "the turned nodes first, then the originals in order", with the originals or without
+abbrev pub dual-nodes : Bool → Table → List Node
+dual-nodes b t = fill table-nodes-most blank-node (listed (t .count) (λ i. turned-node (t .count) (node-at t i)) ++ originals b t)
 
 -- "A dual table of n nodes without session items has n nodes ..; With any session item it has 2n"
 abbrev pub dual-count : Bool → ℕ → ℕ
@@ -75,10 +90,4 @@ dual-count false n = n
 
 -- "same numbers and start"
 unfoldable pub dual : Table → Table
-dual t =
-    record {
-      nodes =
-          fill table-nodes-most blank-node (listed (t .count) (λ i. turned-node (t .count) (node-at t i)) ++ originals (hands-over t) t);
-      count = dual-count (hands-over t) (t .count);
-      start = t .start;
-    }
+dual t = record { nodes = dual-nodes (hands-over t) t; count = dual-count (hands-over t) (t .count); start = t .start }
