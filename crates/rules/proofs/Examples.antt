@@ -9,6 +9,7 @@ use native.Mathlib.Omega.{arith}
 use Rattle.rules.proofs.Computes.{computes}
 use Rattle.rules.proofs.DualUnfolds.{original-same, dual-unfolds}
 use Rattle.rules.proofs.Formed.{formed}
+use Rattle.rules.proofs.LineAgreement.{prints-printed}
 use Rattle.rules.proofs.Starred.{Holds, compared, R, N, M, P, Q}
 use Rattle.rules.specs.Basics.{bytes, fill}
 use Rattle.rules.specs.Numbers.{items-most, table-nodes-most}
@@ -83,7 +84,7 @@ letter-not-dual D =
 -- each pair is reached in both turns
 pub own-session : Holds (compared A A "yes 4\n")
 unfolding computes
-own-session = refl
+own-session = prints-printed _
 
 -- the missing label of two texts, for a mismatch of this reason, detail, new node, old node and turn
 abbrev pub missing-of : String → String → ℕ → ℕ → ℕ → ℕ → ℕ → List ℕ

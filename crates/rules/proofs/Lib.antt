@@ -17,8 +17,12 @@ pub mod Steps
 pub mod Runs
 pub mod Places
 pub mod Order
+pub mod OrderSteps
 pub mod Growing
 pub mod Smallest
+pub mod Searching
+pub mod Entries
+pub mod VerdictAgreement
 pub mod Names
 pub mod Refusals
 pub mod Replies
@@ -44,6 +48,7 @@ pub mod ReadTables
 pub mod OneVerdict
 pub mod OneCompatible
 pub mod OneLine
+pub mod LineAgreement
 pub mod Means
 pub mod DualSame
 pub mod Hollow

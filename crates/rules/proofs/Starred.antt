@@ -1,14 +1,14 @@
 -- The rows that document 01 marks *, and its worked example: one list, one statement.
 -- Assumes nothing.
 use mathlib.Core.List.{List, [], _∷_, _++_}
-use mathlib.Core.Path.{_≡_, refl}
 use Prim.Native.Nat.{ℕ}
 use Prim.Native.String.{String}
 use Rattle.rules.proofs.Agreement.{reads-reading}
 use Rattle.rules.proofs.Computes.{computes}
+use Rattle.rules.proofs.LineAgreement.{prints-printed}
 use Rattle.rules.specs.Basics.{bytes}
+use Rattle.rules.specs.Line.{Prints}
 use Rattle.rules.specs.Replies.{Reads, refused}
-use Rattle.rules.specs.computed.Line.{printed}
 
 pub data Row : Type 0 where
   -- new, old, and the line
@@ -16,9 +16,9 @@ pub data Row : Type 0 where
   -- a text, and its refusal's number and place
   read : String → ℕ → ℕ → Row
 
--- a text's row says what the declared reading replies; a line's row, so far, what the twin prints
+-- a text's row says what the declared reading replies, and a line's row what the declared verdict prints
 abbrev pub Holds : Row → Type 0
-Holds (compared new old line) = printed (bytes new ++ (0 ∷ bytes old)) ≡ bytes line
+Holds (compared new old line) = Prints (bytes new ++ (0 ∷ bytes old)) (bytes line)
 Holds (read text number place) = Reads (bytes text) (refused number place)
 
 abbrev pub AllHold : List Row → Type 0
@@ -59,4 +59,4 @@ starred =
 pub starred-hold : AllHold starred
 unfolding computes starred
 starred-hold =
-    (refl, (refl, (refl, (refl, (refl, (refl, (refl, (refl, (refl, (reads-reading _, (reads-reading _, (reads-reading _, tt))))))))))))
+    (prints-printed _, (prints-printed _, (prints-printed _, (prints-printed _, (prints-printed _, (prints-printed _, (prints-printed _, (prints-printed _, (prints-printed _, (reads-reading _, (reads-reading _, (reads-reading _, tt))))))))))))
