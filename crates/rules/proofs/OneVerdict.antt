@@ -48,8 +48,8 @@ module _ (new : Table) (new-names : List ℕ) (old : Table) (old-names : List �
         same-mark : (i : ℕ) → i < N → getD (after .marks) i 0 ≡ getD (after′ .marks) i 0
         same-mark i l =
             let p = pair-at new old i in
-            let w = pair-at-within new old i l in
-            rw (← place-pair-at new old i l)
+            let w = pair-at-within (new .count) (old .count) i l in
+            rw (← place-pair-at (new .count) (old .count) i l)
             (Y .marked p (w .turn-below) (w .new-below) (w .old-below)
             ∙ ap mark (smallest-unique (Y .smallest) (Y′ .smallest) p)
             ∙ sym (Y′ .marked p (w .turn-below) (w .new-below) (w .old-below)))

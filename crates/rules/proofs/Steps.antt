@@ -13,7 +13,7 @@ use borrow.Author.Tests.{eqb-true, leb-true, leb-false, ltb-true}
 use Rattle.rules.specs.Basics.{first}
 use Rattle.rules.specs.Numbers.{labels-most}
 use Rattle.rules.specs.Tables.{node-at, item-count, item-at, label-count, label-at, spelling-at, continuation}
-use Rattle.rules.specs.Pairs.{Pair, Onward, Step, reason, or-else, unless, kinds-differ, counts-differ, item-differs, position, lacks, label-lacking, by-chooser, mismatch-of, mismatch-at, onto, nowhere, exchanged, continuation-step, into-item, message-step, choice-step, step-by, step-of, step-at, landed, turn-after, turns-most}
+use Rattle.rules.specs.Pairs.{Pair, Onward, Step, reason, or-else, unless, kinds-differ, counts-differ, item-differs, position, lacks, label-lacking, by-chooser, mismatch-of, mismatch-at, onto, nowhere, exchanged, continuation-step, into-item, message-step, choice-step, step-by, step-of, step-at, landed, left-in, right-in, turn-after, turns-most}
 use Rattle.rules.proofs.Basics.{first-found}
 use Rattle.rules.proofs.Formed.{FormedMessage, FormedChoice, FormedNode, WellFormed}
 use Rattle.table.specs.declared.Kind.{Kind}
@@ -118,11 +118,15 @@ node-lands {n} {m} {x} {xs} {y} {ys} s fx fy e = let f = no-mismatch x xs y ys e
     go c Branch e = choice-lands s (fx .choice) (fy .choice) e
     go c Choose e = exchanged-lands m n s (choice-step y ys x xs s) (choice-lands s (fy .choice) (fx .choice) e)
 
--- a pair of the tables' nodes
-pub record Within (new old : Table) (p : Pair) : Type 0 where
+-- a pair of nodes below n and m
+pub record Inside (n m : ℕ) (p : Pair) : Type 0 where
   pub turn-below : p .turn < turns-most
-  pub new-below : p .new < new .count
-  pub old-below : p .old < old .count
+  pub new-below : p .new < n
+  pub old-below : p .old < m
+
+-- a pair of the tables' nodes
+abbrev pub Within : Table → Table → Pair → Type 0
+Within new old p = Inside (new .count) (old .count) p
 
 turn-after-below : (t : Bool) (u : ℕ) → u < turns-most → turn-after t u < turns-most
 turn-after-below true zero l = omega arith
@@ -135,40 +139,45 @@ pub step-one :
     → Step new new-names old old-names p s q → Step new new-names old old-names p s r → q ≡ r
 step-one S R = let d = S .leads in let e = R .leads in cc
 
+-- what the left node is asked, and the right one, where both the new and the old one are asked their own
+module _ {n m : ℕ} {x : Node} {xs : List ℕ} {y : Node} {ys : List ℕ} where
+  pub left-formed : (u : ℕ) → FormedNode n xs x → FormedNode m ys y → FormedNode (left-in u n m) (left-in u xs ys) (left-in u x y)
+  left-formed zero fx fy = fx
+  left-formed (suc u) fx fy = fy
+
+  pub right-formed : (u : ℕ) → FormedNode n xs x → FormedNode m ys y → FormedNode (right-in u n m) (right-in u xs ys) (right-in u x y)
+  right-formed zero fx fy = fy
+  right-formed (suc u) fx fy = fx
+
+lands-inside :
+    (n m s u : ℕ) → u < turns-most → (o : Onward) → Lands (left-in u n m) (right-in u n m) s o → (q : Pair) → landed u o ≡ some q
+    → Inside n m q × (s < labels-most)
+lands-inside n m s u l nowhere h q e = let z : _≡_ {A = ℕ} 0 1 = cc in absurd (omega arith)
+lands-inside n m s zero l (onto a b t) h q e = (
+  subst (Inside n m) (Option·some-injective _ q e)
+      (record { turn-below = turn-after-below t zero l; new-below = h .0; old-below = h .1 }),
+  h .2,
+)
+lands-inside n m s (suc u) l (onto a b t) h q e = (
+  subst (Inside n m) (Option·some-injective _ q e)
+      (record { turn-below = turn-after-below t (suc u) l; new-below = h .1; old-below = h .0 }),
+  h .2,
+)
+
+-- the steps of two nodes that fit, in turn u
+pub nodes-land :
+    {n m u : ℕ} {x : Node} {xs : List ℕ} {y : Node} {ys : List ℕ} → u < turns-most → FormedNode (left-in u n m) xs x
+    → FormedNode (right-in u n m) ys y → mismatch-of x xs y ys ≡ mismatch.Nothing → (s : ℕ) (q : Pair)
+    → landed u (step-of x xs y ys s) ≡ some q → Inside n m q × (s < labels-most)
+nodes-land {n} {m} {u} {x} {xs} {y} {ys} l fx fy e s q d = lands-inside n m s u l (step-of x xs y ys s) (node-lands s fx fy e) q d
+
 module _ {new : Table} {new-names : List ℕ} {old : Table} {old-names : List ℕ} (new-formed : WellFormed new new-names) (old-formed : WellFormed old old-names) where
   step-lands : (p : Pair) (s : ℕ) (q : Pair) → Within new old p → Step new new-names old old-names p s q → Within new old q × (s < labels-most)
   unfolding mismatch-at step-at
-  step-lands p s q w S = go (p .turn) (w .turn-below) refl
-    where
-      x : FormedNode (new .count) new-names (node-at new (p .new))
-      x = new-formed .each (p .new) (w .new-below)
-
-      y : FormedNode (old .count) old-names (node-at old (p .old))
-      y = old-formed .each (p .old) (w .old-below)
-
-      straight : (o : Onward) → Lands (new .count) (old .count) s o → landed zero o ≡ some q → Within new old q × (s < labels-most)
-      straight nowhere h e = let z : _≡_ {A = ℕ} 0 1 = cc in absurd (omega arith)
-      straight (onto l r t) h e = (
-        subst (Within new old) (Option·some-injective _ q e)
-            (record { turn-below = turn-after-below t zero (omega arith); new-below = h .0; old-below = h .1 }),
-        h .2,
-      )
-
-      turned : (u : ℕ) → suc u < turns-most → (o : Onward) → Lands (old .count) (new .count) s o → landed (suc u) o ≡ some q → Within new old q × (s < labels-most)
-      turned u k nowhere h e = let z : _≡_ {A = ℕ} 0 1 = cc in absurd (omega arith)
-      turned u k (onto l r t) h e = (
-        subst (Within new old) (Option·some-injective _ q e)
-            (record { turn-below = turn-after-below t (suc u) k; new-below = h .1; old-below = h .0 }),
-        h .2,
-      )
-
-      go : (u : ℕ) → u < turns-most → p .turn ≡ u → Within new old q × (s < labels-most)
-      go zero k d =
-          straight (step-of (node-at new (p .new)) new-names (node-at old (p .old)) old-names s) (node-lands s x y (rw d at (S .fits)))
-          (rw d at (S .leads))
-      go (suc u) k d =
-          turned u k (step-of (node-at old (p .old)) old-names (node-at new (p .new)) new-names s) (node-lands s y x (rw d at (S .fits)))
-          (rw d at (S .leads))
+  step-lands p s q w S =
+      let x = new-formed .each (p .new) (w .new-below) in
+      let y = old-formed .each (p .old) (w .old-below) in
+      nodes-land (w .turn-below) (left-formed (p .turn) x y) (right-formed (p .turn) x y) (S .fits) s q (S .leads)
 
   pub step-within : {p : Pair} {s : ℕ} {q : Pair} → Within new old p → Step new new-names old old-names p s q → Within new old q
   step-within {p} {s} {q} w S = step-lands p s q w S .0

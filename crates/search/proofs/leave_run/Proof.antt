@@ -1,0 +1,34 @@
+-- `search::leave_run` meets its contract: what its four calls ensure, of one run.
+-- Assumes nothing.
+use borrow.Author.Needs.{needs}
+use Rattle.search.proofs.Loops.{run-left}
+use Rattle.search.proofs.leave_run.Statement.{statement}
+use Rattle.search.proofs.leave_run.Tie as tie
+
+depth-requires : tie.Need-depth-requires
+depth-requires c κs = search needs
+
+write-path-requires : tie.Need-write-path-requires
+write-path-requires c κs = search needs
+
+clear-bytes-requires : tie.Need-clear-bytes-requires
+clear-bytes-requires c κs = search needs
+
+clear-numbers-requires : tie.Need-clear-numbers-requires
+clear-numbers-requires c κs = search needs
+
+same-length : tie.Need-same-length
+same-length c = search needs
+
+same-length-2 : tie.Need-same-length-2
+same-length-2 c = search needs
+
+same-length-3 : tie.Need-same-length-3
+same-length-3 c = search needs
+
+returns : tie.Need-returns
+returns c =
+    run-left (c .before .before .before .before .before .before .before .before .before .before .before .before .before .before .depth .ensures) (c .before .before .before .before .before .before .before .before .before .before .write-path .ensures) (c .before .before .before .before .before .before .clear-bytes .ensures) (c .before .before .clear-numbers .ensures)
+
+pub leave-run-spec : {M : Type 1} → statement M
+leave-run-spec = tie.close (tie.spec depth-requires write-path-requires clear-bytes-requires clear-numbers-requires same-length same-length-2 same-length-3 returns)
