@@ -61,14 +61,21 @@ unfolding step-of
 step-of-kind x xs y ys s e = sym (ap (λ (k : Kind). step-by k x xs y ys s) e)
 
 -- the step of a choice, by what is found for the chooser: for the left node, or for the right one
-module _ (x y : Node) (places : List ℕ) (s : ℕ) where
-  pub step-left-chooses : (r : Onward) → x .kind ≡ Branch → ChoosesAs x y places s r → StepsAs x y places s r
-  step-left-chooses r e C xs ys P = C xs ys (subst (λ (k : Kind). ChooserPlaced k x xs y ys places) e P) ∙ step-of-kind x xs y ys s e
+module _ {x y : Node} {places : List ℕ} {s : ℕ} where
+  pub step-left-chooses : {r : Onward} → x .kind ≡ Branch → ChoosesAs x y places s r → StepsAs x y places s r
+  step-left-chooses e C =
+      record {
+        is = λ xs ys P. C .is xs ys (subst (λ (k : Kind). ChooserPlaced k x xs y ys places) e P) ∙ step-of-kind x xs y ys s e;
+      }
 
   pub step-right-chooses :
-      (r q : Onward) → x .kind ≡ Choose → ChoosesAs y x places s q → onward r ≡ exchanged (onward q) → StepsAs x y places s r
-  step-right-chooses r q e C f xs ys P =
-      f ∙ ap exchanged (C ys xs (subst (λ (k : Kind). ChooserPlaced k x xs y ys places) e P)) ∙ step-of-kind x xs y ys s e
+      {r q : Onward} → x .kind ≡ Choose → ChoosesAs y x places s q → onward r ≡ exchanged (onward q) → StepsAs x y places s r
+  step-right-chooses e C f =
+      record {
+        is =
+            λ xs ys P.
+            f ∙ ap exchanged (C .is ys xs (subst (λ (k : Kind). ChooserPlaced k x xs y ys places) e P)) ∙ step-of-kind x xs y ys s e;
+      }
 
 -- no step is numbered higher than the continuation's, for a message
 pub message-steps-below : (x y : Node) → item-count x ≤ items-most → is-message (x .kind) ≡ true → StepsBelow x y (continuation-step + 1)

@@ -57,13 +57,13 @@ abbrev pub onward : Onward → rules.Onward
 onward (Onto l r t) = rules.onto l r t
 onward Nowhere = rules.nowhere
 
--- step s of the chooser x, by the places of its labels
-abbrev pub ChoosesAs : Node → Node → List ℕ → ℕ → Onward → Type 0
-ChoosesAs x y places s r = (xs ys : List ℕ) → Placed x xs y ys places → onward r ≡ choice-step x xs y ys s
+-- step s of the chooser x, whatever the name bytes with which the places of its labels are right
+pub record ChoosesAs (x y : Node) (places : List ℕ) (s : ℕ) (r : Onward) : Type 0 where
+  pub is : (xs ys : List ℕ) → Placed x xs y ys places → onward r ≡ choice-step x xs y ys s
 
--- step s of two nodes, by the places of the chooser's labels
-abbrev pub StepsAs : Node → Node → List ℕ → ℕ → Onward → Type 0
-StepsAs x y places s r = (xs ys : List ℕ) → ChooserPlaced (x .kind) x xs y ys places → onward r ≡ step-of x xs y ys s
+-- step s of two nodes, likewise
+pub record StepsAs (x y : Node) (places : List ℕ) (s : ℕ) (r : Onward) : Type 0 where
+  pub is : (xs ys : List ℕ) → ChooserPlaced (x .kind) x xs y ys places → onward r ≡ step-of x xs y ys s
 
 -- no step is numbered r or higher
 pub record StepsBelow (x y : Node) (r : ℕ) : Type 0 where

@@ -41,7 +41,7 @@ pub enum Onward {
     Nowhere,
 }
 
-fn kind_number(k: Kind) -> usize
+pub fn kind_number(k: Kind) -> usize
     ensures { λ r. ⌜ r ≡ kind-number k ⌝ }
 {
     match k {
@@ -169,7 +169,7 @@ fn cover(x: Node, xs: &[u8], y: Node, ys: &[u8]) -> Compared
 }
 
 // "for `&` the left lists and the right must have them": whether the left one chooses.
-fn left_chooses(k: Kind) -> bool
+pub fn left_chooses(k: Kind) -> bool
     ensures { λ r. ⌜ r ≡ by-chooser k true false ⌝ }
 {
     match k {

@@ -96,6 +96,17 @@ pub first-nowhere : {n : ℕ} {p : ℕ → Bool} (i : ℕ) → i ≡ n → ((j :
 first-nowhere {n} {p} i e f =
     sym (found-first n p i (record { within = omega arith; before = f; here = λ m. absurd (omega arith) }))
 
+-- two tests that are the same at every position find the same
+pub first-alike : {n m : ℕ} {p q : ℕ → Bool} → n ≡ m → ((i : ℕ) → i < n → p i ≡ q i) → first n p ≡ first m q
+first-alike {n} {m} {p} {q} e f =
+    let F = first-found m q in
+    found-first n p (first m q)
+    (record {
+      within = omega (arith, F .within);
+      before = λ j l. f j (omega (arith, F .within)) ∙ F .before j l;
+      here = λ l. f (first m q) l ∙ F .here (omega arith);
+    })
+
 -- a test that passes somewhere, by its position
 pub some-below-true : (n : ℕ) (p : ℕ → Bool) → some-below n p ≡ true → (i : ℕ) × (i < n) × (p i ≡ true)
 some-below-true n p e = let l = ltb-true (first n p) n e in (first n p, l, first-found n p .here l)

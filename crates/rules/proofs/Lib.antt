@@ -50,6 +50,14 @@ pub mod OneCompatible
 pub mod OneLine
 pub mod LineAgreement
 pub mod Means
+pub mod Facing
+pub mod FacingSteps
+pub mod Compatible
 pub mod DualSame
 pub mod Hollow
 pub mod RuledOut
+pub mod Following
+pub mod SameSteps
+pub mod VerdictSame
+pub mod NoneMissed
+pub mod Reordered

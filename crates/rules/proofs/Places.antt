@@ -75,3 +75,14 @@ scratch-twice n m =
 -- the pairs of two tables are numbers of 16 bits
 pub pairs-few : {n m : ℕ} → n ≤ table-nodes-most → m ≤ table-nodes-most → turns-most * n * m ≤ 32768
 pairs-few {n} {m} a b = let l : turns-most * n ≤ 256 = omega arith in mul-le-mul l b
+
+-- a place is a sum of small numbers
+module _ {n m : ℕ} {p : Pair} (a : n ≤ table-nodes-most) (b : m ≤ table-nodes-most) (w : Inside n m p) where
+  pub turn-part : p .turn * n ≤ 256
+  turn-part = let l : p .turn ≤ turns-most = omega (arith, w .turn-below) in mul-le-mul l a
+
+  pub turn-product : p .turn * n * m ≤ 32768
+  turn-product = mul-le-mul turn-part b
+
+  pub new-product : p .new * m ≤ 16384
+  new-product = let l : p .new ≤ table-nodes-most = omega (arith, w .new-below) in mul-le-mul l b

@@ -26,18 +26,18 @@ use Rattle.table.specs.declared.answers.Mismatch.{Mismatch}
 use Rattle.table.specs.declared.answers.Mismatch.the-variants as mismatch
 
 -- where nothing is wrong, no reason applies
-or-else-nothing : (a b : Mismatch) → or-else a b ≡ mismatch.Nothing → (a ≡ mismatch.Nothing) × (b ≡ mismatch.Nothing)
+pub or-else-nothing : (a b : Mismatch) → or-else a b ≡ mismatch.Nothing → (a ≡ mismatch.Nothing) × (b ≡ mismatch.Nothing)
 or-else-nothing mismatch.Nothing b e = (refl, e)
 or-else-nothing mismatch.Kinds b e = absurd (omega (arith, ap reason e))
 or-else-nothing mismatch.Counts b e = absurd (omega (arith, ap reason e))
 or-else-nothing (mismatch.Item i) b e = absurd (omega (arith, ap reason e))
 or-else-nothing (mismatch.Label i) b e = absurd (omega (arith, ap reason e))
 
-unless-nothing : (b : Bool) (m : Mismatch) → 0 < reason m → unless b m ≡ mismatch.Nothing → b ≡ true
+pub unless-nothing : (b : Bool) (m : Mismatch) → 0 < reason m → unless b m ≡ mismatch.Nothing → b ≡ true
 unless-nothing true m l e = refl
 unless-nothing false m l e = absurd (omega (arith, ap reason e))
 
-none-lacking :
+pub none-lacking :
     (x : Node) (xs : List ℕ) (y : Node) (ys : List ℕ) → label-lacking x xs y ys ≡ mismatch.Nothing → (i : ℕ) → i < label-count x
     → position (spelling-at x xs i) y ys < label-count y
 unfolding label-lacking lacks
@@ -46,7 +46,7 @@ none-lacking x xs y ys e i l =
     leb-false _ _ (first-found (label-count x) (lacks x xs y ys) .before i (omega arith))
 
 -- what of this a step stands on
-no-mismatch :
+pub no-mismatch :
     (x : Node) (xs : List ℕ) (y : Node) (ys : List ℕ) → mismatch-of x xs y ys ≡ mismatch.Nothing
     → (item-count x ≡ item-count y) × (by-chooser (x .kind) (label-lacking x xs y ys) (label-lacking y ys x xs) ≡ mismatch.Nothing)
 unfolding mismatch-of counts-differ

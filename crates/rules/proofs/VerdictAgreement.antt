@@ -23,27 +23,17 @@ use Rattle.rules.specs.computed.Verdict.{Entry, Outcome, all-fit, mismat
 use Rattle.rules.proofs.Entries.{pair-of, run-of, reached-where, marked-entered, unreached-unmarked, marks-within, marks-more, marks-at, marks-length, one-mark}
 use Rattle.rules.proofs.Formed.{WellFormed, formed}
 use Rattle.rules.proofs.OneVerdict.{one-verdict}
+use Rattle.rules.proofs.Pairs.{fits-nothing, fits-not}
 use Rattle.rules.proofs.Places.{place-below}
 use Rattle.rules.proofs.Runs.{leads-within, starts-within}
 use Rattle.rules.proofs.Searching.{Searched, entered, search-begins, search-skips, search-passes, search-expanded, search-pushes, search-earliest, search-smallest}
 use Rattle.rules.proofs.Steps.{Within, step-within, step-numbered}
 use Rattle.table.specs.declared.Table.{Table}
-use Rattle.table.specs.declared.answers.Mismatch.{Mismatch}
 use Rattle.table.specs.declared.answers.Mismatch.the-variants as mismatch
 use Rattle.table.specs.declared.answers.Verdict.{Verdict}
 
 none-some : {A : Type 0} {a : A} → none ≡ some a → ⊥
 none-some e = let z : _≡_ {A = ℕ} 0 1 = cc in omega arith
-
-fits-nothing : (m : Mismatch) → fits m ≡ true → m ≡ mismatch.Nothing
-fits-nothing mismatch.Nothing e = refl
-fits-nothing mismatch.Kinds e = absurd (false≢true e)
-fits-nothing mismatch.Counts e = absurd (false≢true e)
-fits-nothing (mismatch.Item i) e = absurd (false≢true e)
-fits-nothing (mismatch.Label i) e = absurd (false≢true e)
-
-fits-not : (m : Mismatch) → fits m ≡ false → m ≡ mismatch.Nothing → ⊥
-fits-not m e d = false≢true (sym e ∙ ap fits d)
 
 module _ (new : Table) (new-names : List ℕ) (old : Table) (old-names : List ℕ) (new-formed : WellFormed new new-names) (old-formed : WellFormed old old-names) where
   -- the search stands at entry h, of which the steps below k were taken

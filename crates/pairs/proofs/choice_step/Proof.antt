@@ -11,7 +11,7 @@ label-count-requires : tie.Need-label-count-requires
 label-count-requires c κs = search needs
 
 returns : tie.Need-returns
-returns c = λ xs ys P. sym (no-choice-step _ xs _ ys _ (omega arith))
+returns c = record { is = λ xs ys P. sym (no-choice-step _ xs _ ys _ (omega arith)) }
 
 array-read-at : tie.Need-array-read-at
 array-read-at c = search needs
@@ -27,7 +27,12 @@ label-at-requires-2 c κs = search needs
 
 returns-2 : tie.Need-returns-2
 returns-2 c =
-    λ xs ys P. step-to-label _ xs _ ys _ (c .before .before .before .before .args .t3) P (omega arith) (c .before .label-at .ensures) (c .label-at2 .ensures)
+    record {
+      is =
+          λ xs ys P.
+          step-to-label _ xs _ ys _ (c .before .before .before .before .args .t3) P (omega arith) (c .before .label-at .ensures)
+          (c .label-at2 .ensures);
+    }
 
 pub choice-step-spec : {M : Type 1} → statement M
 choice-step-spec = tie.close (tie.spec label-count-requires returns array-read-at cast-at label-at-requires label-at-requires-2 returns-2)

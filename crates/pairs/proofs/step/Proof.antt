@@ -37,21 +37,21 @@ exchanged-requires : tie.Need-exchanged-requires
 exchanged-requires c κs = search needs
 
 returns : tie.Need-returns
-returns c = λ xs ys P. step-of-kind _ xs _ ys _ (c .enum-told .given .1)
+returns c = record { is = λ xs ys P. step-of-kind _ xs _ ys _ (c .enum-told .given .1) }
 
 returns-2 : tie.Need-returns-2
-returns-2 c = λ xs ys P. c .message-step .ensures ∙ step-of-kind _ xs _ ys _ (c .before .enum-told2 .given .1)
+returns-2 c = record { is = λ xs ys P. c .message-step .ensures ∙ step-of-kind _ xs _ ys _ (c .before .enum-told2 .given .1) }
 
 returns-3 : tie.Need-returns-3
-returns-3 c = λ xs ys P. c .message-step2 .ensures ∙ step-of-kind _ xs _ ys _ (c .before .enum-told3 .given .1)
+returns-3 c = record { is = λ xs ys P. c .message-step2 .ensures ∙ step-of-kind _ xs _ ys _ (c .before .enum-told3 .given .1) }
 
 returns-4 : tie.Need-returns-4
 returns-4 c =
-    step-left-chooses _ _ (c .before .before .before .args .places) _ (c .choice-step .result) (c .before .enum-told4 .given .1) (c .choice-step .ensures)
+    step-left-chooses (c .before .enum-told4 .given .1) (c .choice-step .ensures)
 
 returns-5 : tie.Need-returns-5
 returns-5 c =
-    step-right-chooses _ _ (c .before .before .before .before .args .places) _ (c .exchanged .result) (c .before .choice-step2 .result) (c .before .before .enum-told5 .given .1) (c .before .choice-step2 .ensures) (c .exchanged .ensures)
+    step-right-chooses (c .before .before .enum-told5 .given .1) (c .before .choice-step2 .ensures) (c .exchanged .ensures)
 
 pub step-spec : {M : Type 1} → statement M
 step-spec = tie.close (tie.spec enum-told enum-told-2 message-step-requires enum-told-3 message-step-requires-2 enum-told-4 choice-step-requires enum-told-5 choice-step-requires-2 exchanged-requires returns returns-2 returns-3 returns-4 returns-5)

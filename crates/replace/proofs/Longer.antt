@@ -1,0 +1,161 @@
+-- Areas that are longer than is needed: what is said of their first parts is said of them, and what is beyond stays.
+-- Assumes nothing.
+use mathlib.Core.Bool.{true}
+use mathlib.Core.List.{List, [], _∷_, _++_, append-assoc, append-nil}
+use mathlib.Core.Path.{_≡_, refl, sym, ap, ap₂, _∙_}
+use Prim.Native.Nat.{ℕ, zero, suc, _+_, _<_, _≤_}
+use native.Mathlib.Nat.{min-eq-left}
+use native.Mathlib.Omega.{arith}
+use lib.ListN.{length, getD, take, drop, replicate, length-append, length-drop, length-take, length-replicate, drop-of-length-le, take-append-drop, List·getD-append}
+use lib.Seq.{take-at, drop-at, take-all}
+use Rattle.rules.specs.Formed.{well-formed}
+use Rattle.rules.specs.Replies.{Areas, NoRefusal, SaysYes, SaysNo, Replaces, says-yes, says-no, new-not-formed, old-not-formed, marks-short, path-short, scratch-short, pair-count, scratch-size, cleared, mark-place, count-marks}
+use Rattle.rules.proofs.LineAgreement.{never-refused}
+use Rattle.rules.proofs.Places.{place-below, scratch-twice}
+use Rattle.rules.proofs.Steps.{Within}
+use Rattle.table.specs.declared.Table.{Table}
+use Rattle.table.specs.declared.answers.Found.{Found}
+use Rattle.table.specs.declared.answers.Verdict.{Verdict}
+use Rattle.table.specs.declared.answers.Verdict.the-variants as the
+
+module _ {n : ℕ} (s : List ℕ) (l : n ≤ length s) where
+  pub part-long : length (take n s) ≡ n
+  part-long = length-take n s ∙ min-eq-left l
+
+  -- a first part that was cleared, and the rest
+  cleared-longer : cleared n (take n s) ++ drop n s ≡ cleared n s
+  cleared-longer =
+      ap (λ (x : List ℕ). (replicate n 0 ++ x) ++ drop n s) (drop-of-length-le (take n s) {i = n} (omega (arith, part-long)))
+      ∙ ap (λ (x : List ℕ). x ++ drop n s) (append-nil (replicate n 0))
+
+-- what is left of a first part behind k, and the rest
+drop-longer : (k n : ℕ) (s : List ℕ) → k ≤ n → drop k (take n s) ++ drop n s ≡ drop k s
+drop-longer zero n s l = take-append-drop n s
+drop-longer (suc k) zero s l = absurd (omega arith)
+drop-longer (suc k) (suc n) [] l = refl
+drop-longer (suc k) (suc n) (x ∷ s) l = drop-longer k n s (omega arith)
+
+module _ {new : Table} {new-names : List ℕ} {old : Table} {old-names : List ℕ} {before : Areas} (F : NoRefusal new new-names old old-names before) where
+  abbrev N : ℕ
+  N = pair-count new old
+
+  abbrev first-parts : Areas
+  first-parts =
+      record {
+        marks = take N (before .marks);
+        path = take N (before .path);
+        scratch = take (scratch-size new old) (before .scratch);
+      }
+
+  parts-no-refusal : NoRefusal new new-names old old-names first-parts
+  parts-no-refusal =
+      record {
+        new-formed = F .new-formed;
+        old-formed = F .old-formed;
+        marks-long = omega (arith, part-long (before .marks) (F .marks-long));
+        path-long = omega (arith, part-long (before .path) (F .path-long));
+        scratch-long = omega (arith, part-long (before .scratch) (F .scratch-long));
+      }
+
+  -- the whole areas, of which first parts were written
+  abbrev wholes : Areas → Areas
+  wholes a =
+      record {
+        marks = a .marks ++ drop N (before .marks);
+        path = a .path ++ drop N (before .path);
+        scratch = a .scratch ++ drop (scratch-size new old) (before .scratch);
+      }
+
+  module _ {after : Areas} (marks-kept : length (after .marks) ≡ N) (path-kept : length (after .path) ≡ N) where
+    yes-longer : {c : ℕ} → SaysYes new new-names old old-names first-parts after c → SaysYes new new-names old old-names before (wholes after) c
+    yes-longer Y =
+        record {
+          set = Y .set;
+          smallest = Y .smallest;
+          size =
+              length-append (after .marks) (drop N (before .marks))
+              ∙ omega (arith, marks-kept, length-drop N (before .marks), F .marks-long);
+          marked =
+              λ p t n o.
+              let w : Within new old p = record { turn-below = t; new-below = n; old-below = o } in
+              List·getD-append (after .marks) (drop N (before .marks)) 0 (mark-place new old p) (omega (arith, marks-kept, place-below w))
+              ∙ Y .marked p t n o;
+          beyond = drop-at (after .marks) (drop N (before .marks)) N marks-kept;
+          counted =
+              Y .counted
+              ∙ ap count-marks
+              (take-all N (after .marks) (omega arith) ∙ sym (take-at (after .marks) (drop N (before .marks)) N marks-kept));
+          path = ap (λ (x : List ℕ). x ++ drop N (before .path)) (Y .path) ∙ take-append-drop N (before .path);
+          scratch =
+              ap (λ (x : List ℕ). x ++ drop (scratch-size new old) (before .scratch)) (Y .scratch)
+              ∙ cleared-longer (before .scratch) (F .scratch-long);
+        }
+
+    no-longer : {f : Found} → SaysNo new new-names old old-names first-parts after f → SaysNo new new-names old old-names before (wholes after) f
+    no-longer X =
+        let short : length (X .run) ≤ N =
+        omega (
+          arith,
+          path-kept,
+          ap length (X .path) ∙ length-append (X .run) (drop (length (X .run)) (take N (before .path))),
+        ) in
+        record {
+          run = X .run;
+          end = X .end;
+          runs = X .runs;
+          wrong = X .wrong;
+          earliest = X .earliest;
+          returned = X .returned;
+          marks =
+              ap (λ (x : List ℕ). x ++ drop N (before .marks)) (X .marks) ∙ cleared-longer (before .marks) (F .marks-long);
+          path =
+              ap (λ (x : List ℕ). x ++ drop N (before .path)) (X .path)
+              ∙ append-assoc (X .run) (drop (length (X .run)) (take N (before .path))) (drop N (before .path))
+              ∙ ap (λ (x : List ℕ). X .run ++ x) (drop-longer (length (X .run)) N (before .path) short);
+          scratch =
+              ap (λ (x : List ℕ). x ++ drop (scratch-size new old) (before .scratch)) (X .scratch)
+              ∙ cleared-longer (before .scratch) (F .scratch-long);
+        }
+
+    replaces-longer :
+        (v : Verdict) → Replaces new new-names old old-names first-parts after v
+        → Replaces new new-names old old-names before (wholes after) v
+    replaces-longer (the.Yes c) (says-yes G Y) = says-yes F (yes-longer Y)
+    replaces-longer (the.No f) (says-no G X) = says-no F (no-longer X)
+    replaces-longer (the.Refused n p) R = absurd (never-refused parts-no-refusal R)
+
+pub twice-scratch : {size : ℕ} (new old : Table) → size ≡ pair-count new old → size + size ≡ scratch-size new old
+twice-scratch new old e = omega (arith, e, scratch-twice (new .count) (old .count))
+
+-- no refusal applies, and the first parts were written
+module _ {new : Table} {new-names : List ℕ} {old : Table} {old-names : List ℕ} {marks path scratch : List ℕ} {size : ℕ} where
+  pub none-applies :
+      well-formed new new-names ≡ true → well-formed old old-names ≡ true → size ≡ pair-count new old → size ≤ length marks
+      → size ≤ length path → size + size ≤ length scratch
+      → NoRefusal new new-names old old-names (record { marks = marks; path = path; scratch = scratch })
+  none-applies f g e m p s =
+      record {
+        new-formed = f;
+        old-formed = g;
+        marks-long = omega arith;
+        path-long = omega arith;
+        scratch-long = omega (arith, s, twice-scratch new old e);
+      }
+
+  pub replaces-whole :
+      {marks′ path′ scratch′ : List ℕ} {v : Verdict}
+      → NoRefusal new new-names old old-names (record { marks = marks; path = path; scratch = scratch }) → size ≡ pair-count new old
+      → length marks′ ≡ size → length path′ ≡ size
+      → Replaces new new-names old old-names
+      (record { marks = take size marks; path = take size path; scratch = take (size + size) scratch })
+      (record { marks = marks′; path = path′; scratch = scratch′ }) v
+      → Replaces new new-names old old-names (record { marks = marks; path = path; scratch = scratch })
+      (record {
+        marks = marks′ ++ drop size marks;
+        path = path′ ++ drop size path;
+        scratch = scratch′ ++ drop (size + size) scratch;
+      })
+      v
+  replaces-whole {v} F e l m R =
+      let d : size + size ≡ scratch-size new old = twice-scratch new old e in
+      rw (d, e) (replaces-longer F (l ∙ e) (m ∙ e) v (rw (d, e) at R))

@@ -1,0 +1,89 @@
+-- `replace::may_replace` meets its contract: each refusal where it applies, else the verdict in the areas' first parts.
+-- Assumes nothing.
+use borrow.Author.Needs.{needs}
+use native.Mathlib.Omega.{arith}
+use mathlib.Core.Path.{refl, sym, _∙_}
+use borrow.Author.Tests.{not-true, not-false}
+use Rattle.rules.specs.Replies.{new-not-formed, old-not-formed, marks-short, path-short, scratch-short}
+use Rattle.rules.proofs.Formed.{formed}
+use Rattle.rules.proofs.Places.{pairs-few}
+use Rattle.replace.proofs.Longer.{part-long, twice-scratch, none-applies, replaces-whole}
+use Rattle.replace.proofs.may_replace.Statement.{statement}
+use Rattle.replace.proofs.may_replace.Tie as tie
+
+well-formed-requires : tie.Need-well-formed-requires
+well-formed-requires c κs = search needs
+
+returns : tie.Need-returns
+returns c = new-not-formed (sym (c .before .well-formed .ensures) ∙ not-true _ (c .if1 .taken)) refl
+
+well-formed-requires-2 : tie.Need-well-formed-requires-2
+well-formed-requires-2 c κs = search needs
+
+returns-2 : tie.Need-returns-2
+returns-2 c =
+    old-not-formed (sym (c .before .before .before .well-formed .ensures) ∙ not-false _ (c .before .before .if1 .left)) (sym (c .before .well-formed2 .ensures) ∙ not-true _ (c .if2 .taken)) refl
+
+cast-n : tie.Need-cast-n
+cast-n c = search needs
+
+cast-m : tie.Need-cast-m
+cast-m c = search needs
+
+pair-count-requires : tie.Need-pair-count-requires
+pair-count-requires c κs =
+    (formed (sym (c .before .before .before .before .before .well-formed .ensures) ∙ not-false _ (c .before .before .before .before .if1 .left)) .few-nodes, formed (sym (c .before .before .before .well-formed2 .ensures) ∙ not-false _ (c .before .before .if2 .left)) .few-nodes)
+
+returns-3 : tie.Need-returns-3
+returns-3 c =
+    marks-short (sym (c .before .before .before .before .before .before .before .well-formed .ensures) ∙ not-false _ (c .before .before .before .before .before .before .if1 .left)) (sym (c .before .before .before .before .before .well-formed2 .ensures) ∙ not-false _ (c .before .before .before .before .if2 .left)) (omega (arith, c .if3 .taken, c .before .pair-count .ensures)) refl
+
+returns-4 : tie.Need-returns-4
+returns-4 c =
+    path-short (sym (c .before .before .before .before .before .before .before .before .well-formed .ensures) ∙ not-false _ (c .before .before .before .before .before .before .before .if1 .left)) (sym (c .before .before .before .before .before .before .well-formed2 .ensures) ∙ not-false _ (c .before .before .before .before .before .if2 .left)) (omega (arith, c .before .if3 .left, c .before .before .pair-count .ensures)) (omega (arith, c .if4 .taken, c .before .before .pair-count .ensures)) refl
+
+add-twice : tie.Need-add-twice
+add-twice c =
+    omega (arith, c .before .before .pair-count .ensures, pairs-few (formed (sym (c .before .before .before .before .before .before .before .before .well-formed .ensures) ∙ not-false _ (c .before .before .before .before .before .before .before .if1 .left)) .few-nodes) (formed (sym (c .before .before .before .before .before .before .well-formed2 .ensures) ∙ not-false _ (c .before .before .before .before .before .if2 .left)) .few-nodes))
+
+returns-5 : tie.Need-returns-5
+returns-5 c =
+    scratch-short (sym (c .before .before .before .before .before .before .before .before .before .well-formed .ensures) ∙ not-false _ (c .before .before .before .before .before .before .before .before .if1 .left)) (sym (c .before .before .before .before .before .before .before .well-formed2 .ensures) ∙ not-false _ (c .before .before .before .before .before .before .if2 .left)) (omega (arith, c .before .before .if3 .left, c .before .before .before .pair-count .ensures)) (omega (arith, c .before .if4 .left, c .before .before .before .pair-count .ensures)) (omega (arith, c .if5 .taken, twice-scratch (c .before .before .before .before .before .before .before .before .before .before .before .before .before .before .before .args .new) (c .before .before .before .before .before .before .before .before .before .before .before .before .before .before .before .args .old) (c .before .before .before .pair-count .ensures))) refl
+
+slice-relend-prefix-decide : tie.Need-slice-relend-prefix-decide
+slice-relend-prefix-decide c = search needs
+
+slice-aggregate-decide : tie.Need-slice-aggregate-decide
+slice-aggregate-decide c = sym (part-long _ (c .before .before .before .if3 .left))
+
+slice-relend-prefix-decide-2 : tie.Need-slice-relend-prefix-decide-2
+slice-relend-prefix-decide-2 c = search needs
+
+slice-aggregate-decide-2 : tie.Need-slice-aggregate-decide-2
+slice-aggregate-decide-2 c = sym (part-long _ (c .before .before .before .if4 .left))
+
+slice-relend-prefix-decide-3 : tie.Need-slice-relend-prefix-decide-3
+slice-relend-prefix-decide-3 c = search needs
+
+slice-aggregate-decide-3 : tie.Need-slice-aggregate-decide-3
+slice-aggregate-decide-3 c = sym (part-long _ (c .before .before .before .if5 .left))
+
+decide-requires : tie.Need-decide-requires
+decide-requires c κs =
+    ((sym (c .before .before .before .before .before .before .before .before .before .before .before .before .well-formed .ensures) ∙ not-false _ (c .before .before .before .before .before .before .before .before .before .before .before .if1 .left)), (sym (c .before .before .before .before .before .before .before .before .before .before .well-formed2 .ensures) ∙ not-false _ (c .before .before .before .before .before .before .before .before .before .if2 .left)), part-long _ (c .before .before .before .before .before .if3 .left) ∙ c .before .before .before .before .before .before .pair-count .ensures, part-long _ (c .before .before .before .before .if4 .left) ∙ c .before .before .before .before .before .before .pair-count .ensures, part-long _ (c .before .before .before .if5 .left) ∙ twice-scratch (c .before .before .before .before .before .before .before .before .before .before .before .before .before .before .before .before .before .before .args .new) (c .before .before .before .before .before .before .before .before .before .before .before .before .before .before .before .before .before .before .args .old) (c .before .before .before .before .before .before .pair-count .ensures))
+
+same-length : tie.Need-same-length
+same-length c = search needs
+
+same-length-2 : tie.Need-same-length-2
+same-length-2 c = search needs
+
+same-length-3 : tie.Need-same-length-3
+same-length-3 c = search needs
+
+returns-6 : tie.Need-returns-6
+returns-6 c =
+    replaces-whole (none-applies (sym (c .before .before .before .before .before .before .before .before .before .before .before .before .before .before .before .before .before .before .before .well-formed .ensures) ∙ not-false _ (c .before .before .before .before .before .before .before .before .before .before .before .before .before .before .before .before .before .before .if1 .left)) (sym (c .before .before .before .before .before .before .before .before .before .before .before .before .before .before .before .before .before .well-formed2 .ensures) ∙ not-false _ (c .before .before .before .before .before .before .before .before .before .before .before .before .before .before .before .before .if2 .left)) (c .before .before .before .before .before .before .before .before .before .before .before .before .before .pair-count .ensures) (c .before .before .before .before .before .before .before .before .before .before .before .before .if3 .left) (c .before .before .before .before .before .before .before .before .before .before .before .if4 .left) (c .before .before .before .before .before .before .before .before .before .before .if5 .left)) (c .before .before .before .before .before .before .before .before .before .before .before .before .before .pair-count .ensures) (c .before .before .before .before .before .before .decide .kept .1 .1 .1 .1 .0 ∙ part-long _ (c .before .before .before .before .before .before .before .before .before .before .before .before .if3 .left)) (c .before .before .before .before .before .before .decide .kept .1 .1 .1 .1 .1 .0 ∙ part-long _ (c .before .before .before .before .before .before .before .before .before .before .before .if4 .left)) (c .before .before .before .before .before .before .decide .ensures)
+
+pub may-replace-spec : {M : Type 1} → statement M
+may-replace-spec = tie.close (tie.spec well-formed-requires returns well-formed-requires-2 returns-2 cast-n cast-m pair-count-requires returns-3 returns-4 add-twice returns-5 slice-relend-prefix-decide slice-aggregate-decide slice-relend-prefix-decide-2 slice-aggregate-decide-2 slice-relend-prefix-decide-3 slice-aggregate-decide-3 decide-requires same-length same-length-2 same-length-3 returns-6)
