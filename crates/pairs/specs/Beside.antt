@@ -7,11 +7,12 @@ use Prim.Native.Nat.{ℕ, _<_, _≤_}
 use lib.ListN.{getD}
 use Rattle.rules.specs.Basics.{same}
 use Rattle.rules.specs.Numbers.{items-most, labels-most}
-use Rattle.rules.specs.Tables.{item-count, label-count, spelling-at}
+use Rattle.rules.specs.Tables.{blank-label, item-count, label-count, spelling, spelling-at}
 use Rattle.rules.specs.Pairs.{position, label-lacking, mismatch-of, choice-step, step-of}
 use Rattle.rules.specs.Pairs as rules
 use Rattle.table.specs.declared.Kind.{Kind}
 use Rattle.table.specs.declared.Kind.the-variants.{End, Receive, Send, Branch, Choose}
+use Rattle.table.specs.declared.Label.{Label}
 use Rattle.table.specs.declared.Node.{Node}
 use Rattle.table.specs.declared.answers.Mismatch.the-variants.{Nothing}
 use Rattle.pairs.specs.declared.Compared.{Compared}
@@ -24,12 +25,21 @@ pub record Listed (names : List ℕ) (x : Node) : Type 0 where
   pub few-labels : label-count x ≤ labels-most
   pub once : (i j : ℕ) → i < label-count x → j < label-count x → spelling-at x names i ≡ spelling-at x names j → i ≡ j
 
--- r is the first position from low on and below high at which y has the label w, or is high
-pub record FoundFrom (w : List ℕ) (y : Node) (ys : List ℕ) (low high r : ℕ) : Type 0 where
+-- the bytes of the label at position i of a list: `spelling-at`, of the list alone
+abbrev pub spelled : List Label → List ℕ → ℕ → List ℕ
+spelled labels names i = spelling names (getD labels i blank-label)
+
+-- a list of `count` labels, no two of them the same
+pub record ListOnce (labels : List Label) (count : ℕ) (names : List ℕ) : Type 0 where
+  pub few : count ≤ labels-most
+  pub once : (i j : ℕ) → i < count → j < count → spelled labels names i ≡ spelled labels names j → i ≡ j
+
+-- r is the first position from low on and below high at which the list has the label w, or is high
+pub record FoundFrom (w : List ℕ) (labels : List Label) (names : List ℕ) (low high r : ℕ) : Type 0 where
   pub from : low ≤ r
   pub to : r ≤ high
-  pub before : (j : ℕ) → low ≤ j → j < r → same w (spelling-at y ys j) ≡ false
-  pub here : r < high → same w (spelling-at y ys r) ≡ true
+  pub before : (j : ℕ) → low ≤ j → j < r → same w (spelled labels names j) ≡ false
+  pub here : r < high → same w (spelled labels names r) ≡ true
 
 -- the places are those of the labels of x in the list of y
 abbrev pub Placed : Node → List ℕ → Node → List ℕ → List ℕ → Type 0

@@ -7,10 +7,11 @@ use nodes::item_at;
 use nodes::item_count;
 use nodes::label_at;
 use nodes::label_count;
-use nodes::spelling_at;
+use nodes::spelling;
 use table::Item;
 use table::Kind;
 use table::LABELS_MOST;
+use table::Label;
 use table::Node;
 use table::Sort;
 use table::answers::Mismatch;
@@ -19,12 +20,12 @@ ghost use mathlib.Core.Bool.{true, false, not};
 ghost use mathlib.Core.Path.{_≡_};
 ghost use Prim.Native.Nat.{_<_, _≤_};
 ghost use lib.Dec.{eqb};
-ghost use Rattle.rules.specs.Basics.{first};
+ghost use Rattle.rules.specs.Basics.{first, same};
 ghost use Rattle.rules.specs.Numbers.{items-most, labels-most};
 ghost use Rattle.rules.specs.Tables.{item-count, item-at, label-count};
-ghost use Rattle.rules.specs.Pairs.{kind-number, sort-number, items-agree, position, by-chooser, into-item, message-step, exchanged};
+ghost use Rattle.rules.specs.Pairs.{kind-number, sort-number, items-agree, by-chooser, into-item, message-step, exchanged};
 ghost use Rattle.table.specs.declared.Item.the-variants.{OfSort, Session};
-ghost use Rattle.pairs.specs.Beside.{Listed, FoundFrom, Covers, Compares, onward, StepsAs, ChoosesAs, StepsBelow};
+ghost use Rattle.pairs.specs.Beside.{Listed, ListOnce, spelled, FoundFrom, Covers, Compares, onward, StepsAs, ChoosesAs, StepsBelow};
 
 // "then 4 for the continuation"
 const CONTINUATION_STEP: usize = 4;
@@ -93,12 +94,19 @@ fn items_agree(a: Item, b: Item) -> bool
 
 // The first position at which the items of x and y do not agree; the count where they all do.
 fn first_unlike(x: Node, y: Node) -> usize
+    requires { ⌜ item-count x ≤ items-most ⌝ }
     ensures { λ r. ⌜ r ≡ first (item-count x) (λ i. not (items-agree (item-at x i) (item-at y i))) ⌝ }
 {
     let count = item_count(x);
+    let mine = x.items;
+    let theirs = y.items;
     let mut i = 0;
     while i < count {
-        if !items_agree(item_at(x, i), item_at(y, i)) {
+        let a = mine[i];
+        let b = theirs[i];
+        let item = a.item;
+        let other = b.item;
+        if !items_agree(item, other) {
             return i;
         }
         i += 1;
@@ -106,14 +114,20 @@ fn first_unlike(x: Node, y: Node) -> usize
     i
 }
 
-// The first position from `low` on and below `high` at which y has the label w; `high` where it has it at none of them.
-fn find_between(w: &[u8], y: Node, ys: &[u8], low: usize, high: usize) -> usize
-    requires { ⌜ low ≤ high ⌝ }
-    ensures { λ r. ⌜ FoundFrom (now (w .entry)) y (now (ys .entry)) low high r ⌝ }
+// The first position from `low` on and below `high` at which the list has the label w; `high` where it has it at none of them.
+fn find_between(
+    w: &[u8],
+    labels: [Label; LABELS_MOST],
+    names: &[u8],
+    low: usize,
+    high: usize,
+) -> usize
+    requires { ⌜ (low ≤ high) × (high ≤ labels-most) ⌝ }
+    ensures { λ r. ⌜ FoundFrom (now (w .entry)) labels (now (names .entry)) low high r ⌝ }
 {
     let mut j = low;
     while j < high {
-        if same_bytes(w, spelling_at(ys, y, j)) {
+        if same_bytes(w, spelling(names, labels[j])) {
             return j;
         }
         j += 1;
@@ -121,21 +135,26 @@ fn find_between(w: &[u8], y: Node, ys: &[u8], low: usize, high: usize) -> usize
     j
 }
 
-// Where y has the label w: looked for from the position `from` on and then round, since most lists have one order. As a label stands once
-// in a list, it does not matter where the search starts.
-fn find_label(w: &[u8], y: Node, ys: &[u8], from: usize) -> usize
-    requires { ⌜ Listed (now ys) y ⌝ }
-    ensures { λ r. ⌜ r ≡ position (now (w .entry)) y (now (ys .entry)) ⌝ }
+// Where a list of `count` labels has the label w: looked for from the position `from` on and then round, since most lists have one order. As
+// a label stands once in a list, it does not matter where the search starts. Of the other node the list alone is handed on.
+fn find_label(
+    w: &[u8],
+    labels: [Label; LABELS_MOST],
+    count: usize,
+    names: &[u8],
+    from: usize,
+) -> usize
+    requires { ⌜ ListOnce labels count (now names) ⌝ }
+    ensures { λ r. ⌜ r ≡ first count (λ j. same (now (w .entry)) (spelled labels (now (names .entry)) j)) ⌝ }
 {
-    let count = label_count(y);
     if count <= from {
-        return find_between(w, y, ys, 0, count);
+        return find_between(w, labels, names, 0, count);
     }
-    let j = find_between(w, y, ys, from, count);
+    let j = find_between(w, labels, names, from, count);
     if j < count {
         return j;
     }
-    let k = find_between(w, y, ys, 0, from);
+    let k = find_between(w, labels, names, 0, from);
     if k < from {
         return k;
     }
@@ -149,10 +168,12 @@ fn cover(x: Node, xs: &[u8], y: Node, ys: &[u8]) -> Compared
 {
     let count = label_count(x);
     let other = label_count(y);
+    let mine = x.labels;
+    let theirs = y.labels;
     let mut places = [0; LABELS_MOST];
     let mut i = 0;
     while i < count {
-        let at = find_label(spelling_at(xs, x, i), y, ys, i);
+        let at = find_label(spelling(xs, mine[i]), theirs, other, ys, i);
         if other <= at {
             return Compared {
                 wrong: Mismatch::Label(i),

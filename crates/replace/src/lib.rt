@@ -344,10 +344,10 @@ fn decide(
         leave_marks(marks, scratch);
         return Verdict::Yes(tail);
     }
-    let place = wide(scratch[at]);
+    let last = wide(scratch[at]);
     let steps = leave_run(size, at, marks, path, scratch);
     let wrong = ended.wrong;
-    Verdict::No(found(sizes, place, wrong, steps))
+    Verdict::No(found(sizes, last, wrong, steps))
 }
 
 // Whether `new` may replace `old`: yes with the count of marks, no with what was found, or a refusal.

@@ -14,17 +14,17 @@ pub fn wide(x: u16) -> usize
     x as usize
 }
 
-pub fn clear_bytes(s: &mut [u8])
-    ensures { λ _. ⌜ now (s .exit) ≡ replicate (length (now (s .entry))) 0 ⌝ }
+fn clear_marks(marks: &mut [u8])
+    ensures { λ _. ⌜ now (marks .exit) ≡ replicate (length (now (marks .entry))) 0 ⌝ }
 {
-    let mut i = 0;
-    while i < s.len() {
-        s[i] = 0;
-        i += 1;
+    let mut at = 0;
+    while at < marks.len() {
+        marks[at] = 0;
+        at += 1;
     }
 }
 
-pub fn clear_numbers(s: &mut [u16])
+fn clear_numbers(s: &mut [u16])
     ensures { λ _. ⌜ now (s .exit) ≡ replicate (length (now (s .entry))) 0 ⌝ }
 {
     let mut i = 0;
@@ -41,7 +41,7 @@ fn settled(mark: u8) -> u8
     if mark == 0 { 0 } else { 1 }
 }
 
-pub fn settle(marks: &mut [u8])
+fn settle(marks: &mut [u8])
     ensures { λ _. ⌜ now (marks .exit) ≡ map settled (now (marks .entry)) ⌝ }
 {
     let mut i = 0;
@@ -56,7 +56,7 @@ pub fn begin(size: usize, start: usize, marks: &mut [u8], scratch: &mut [u16])
     requires { ⌜ (start < size) × (size ≤ 32768) × (length (now marks) ≡ size) × (length (now scratch) ≡ size + size) ⌝ }
     ensures { λ _. ⌜ record { marks = now (marks .exit); scratch = now (scratch .exit); tail = 1 } ≡ begun size start ⌝ }
 {
-    clear_bytes(marks);
+    clear_marks(marks);
     clear_numbers(scratch);
     marks[start] = 1;
     scratch[0] = start as u16;
@@ -85,7 +85,7 @@ pub fn visit(
 }
 
 // How many steps lead to entry `at`.
-pub fn depth(size: usize, at: usize, marks: &[u8], scratch: &[u16]) -> usize
+fn depth(size: usize, at: usize, marks: &[u8], scratch: &[u16]) -> usize
     requires { ⌜ Entry size (now marks) (now scratch) at ⌝ }
     ensures { λ r. ⌜ r ≡ length (run-at size (now (marks .entry)) (now (scratch .entry)) at) ⌝ }
 {
@@ -107,15 +107,15 @@ fn step_into(marks: &[u8], at: usize) -> u16
     (m - 1) as u16
 }
 
+fn write_step(path: &mut [u16], at: usize, step: u16)
+    requires { ⌜ at < length (now path) ⌝ }
+    ensures { λ _. ⌜ now (path .exit) ≡ set (now (path .entry)) at step ⌝ }
+{
+    path[at] = step;
+}
+
 // The `steps` steps that lead to entry `at`, in their order; what is beyond them stays.
-pub fn write_path(
-    size: usize,
-    at: usize,
-    steps: usize,
-    marks: &[u8],
-    scratch: &[u16],
-    path: &mut [u16],
-)
+fn write_path(size: usize, at: usize, steps: usize, marks: &[u8], scratch: &[u16], path: &mut [u16])
     requires { ⌜ Entry size (now marks) (now scratch) at × (steps ≡ length (run-at size (now marks) (now scratch) at)) × (size ≤ length (now path)) ⌝ }
     ensures { λ _. ⌜ now (path .exit) ≡ run-at size (now (marks .entry)) (now (scratch .entry)) at ++ drop steps (now (path .entry)) ⌝ }
 {
@@ -123,7 +123,8 @@ pub fn write_path(
     let mut j = steps;
     while 0 < j {
         j -= 1;
-        path[j] = step_into(marks, wide(scratch[i]));
+        let step = step_into(marks, wide(scratch[i]));
+        write_step(path, j, step);
         i = wide(scratch[size + i]);
     }
 }
@@ -149,7 +150,7 @@ pub fn leave_run(
 {
     let steps = depth(size, at, marks, scratch);
     write_path(size, at, steps, marks, scratch, path);
-    clear_bytes(marks);
+    clear_marks(marks);
     clear_numbers(scratch);
     steps
 }

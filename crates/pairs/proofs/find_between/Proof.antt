@@ -1,4 +1,4 @@
--- `pairs::find_between` meets its contract: y has the label at no position from `low` on and below `j`.
+-- `pairs::find_between` meets its contract: the list has the label at no position from `low` on and below `j`.
 -- Assumes nothing.
 use borrow.Author.Count.{below-more}
 use borrow.Author.Needs.{needs}
@@ -8,15 +8,15 @@ use mathlib.Core.Path.{_≡_, sym, ap, _∙_}
 use Prim.Native.Nat.{ℕ, _≤_, _<_, _-_}
 use native.Mathlib.Omega.{arith}
 use Rattle.rules.specs.Basics.{same}
-use Rattle.rules.specs.Tables.{spelling-at}
+use Rattle.pairs.specs.Beside.{spelled}
 use Rattle.pairs.proofs.find_between.Statement.{statement}
 use Rattle.pairs.proofs.find_between.Tie as tie
 
 abbrev Inv-loop : tie.InvT-loop
-Inv-loop w y ys low high j₀ j = (low ≤ j) × (j ≤ high) × ((k : ℕ) → k < j → low ≤ k → same w (spelling-at y ys k) ≡ false)
+Inv-loop w names low high labels j₀ j = (low ≤ j) × (j ≤ high) × ((k : ℕ) → k < j → low ≤ k → same w (spelled labels names k) ≡ false)
 
 abbrev μ-loop : tie.MeasureT-loop
-μ-loop w y ys low high j₀ j = high - j
+μ-loop w names low high labels j₀ j = high - j
 
 -- a word that was compared with another, and what that is
 compared : {r b : Bool} (w : List ℕ) {v z : List ℕ} → r ≡ same w v → v ≡ z → r ≡ b → same w z ≡ b
@@ -25,8 +25,14 @@ compared w e f g = sym (e ∙ ap (same w) f) ∙ g
 loop-holds : tie.Need-loop-holds Inv-loop μ-loop
 loop-holds c = (omega arith, omega arith, λ k l m. absurd (omega arith))
 
-spelling-at-requires : tie.Need-spelling-at-requires Inv-loop μ-loop
-spelling-at-requires c κs = search needs
+mul-spelling : tie.Need-mul-spelling Inv-loop μ-loop
+mul-spelling c = search needs
+
+array-copy-out-spelling : tie.Need-array-copy-out-spelling Inv-loop μ-loop
+array-copy-out-spelling c = omega arith
+
+spelling-requires : tie.Need-spelling-requires Inv-loop μ-loop
+spelling-requires c κs = search needs
 
 same-bytes-requires : tie.Need-same-bytes-requires Inv-loop μ-loop
 same-bytes-requires c κs = search needs
@@ -36,8 +42,8 @@ returns c =
     record {
       from = omega arith;
       to = omega arith;
-      before = λ k l m. c .before .before .before .before .loop .inv .2 k m l;
-      here = λ l. compared _ (c .before .same-bytes .ensures) (c .before .before .spelling-at .ensures) (c .if1 .taken);
+      before = λ k l m. c .before .before .before .before .before .loop .inv .2 k m l;
+      here = λ l. compared _ (c .before .same-bytes .ensures) (c .before .before .spelling .ensures) (c .if1 .taken);
     }
 
 add-j : tie.Need-add-j Inv-loop μ-loop
@@ -50,7 +56,8 @@ loop-again : tie.Need-loop-again Inv-loop μ-loop
 loop-again c = (
   omega arith,
   omega arith,
-  below-more _ _ (c .before .before .before .before .loop .inv .2) (λ l. compared _ (c .before .same-bytes .ensures) (c .before .before .spelling-at .ensures) (c .if1 .left)),
+  below-more _ _ (c .before .before .before .before .before .loop .inv .2)
+      (λ l. compared _ (c .before .same-bytes .ensures) (c .before .before .spelling .ensures) (c .if1 .left)),
 )
 
 returns-2 : tie.Need-returns-2 Inv-loop μ-loop
@@ -58,4 +65,7 @@ returns-2 c =
     record { from = omega arith; to = omega arith; before = λ k l m. c .before .loop .inv .2 k m l; here = λ l. absurd (omega arith) }
 
 pub find-between-spec : {M : Type 1} → statement M
-find-between-spec = tie.close (tie.spec Inv-loop μ-loop loop-holds spelling-at-requires same-bytes-requires returns add-j loop-less loop-again returns-2)
+find-between-spec =
+    tie.close
+    (tie.spec Inv-loop μ-loop loop-holds mul-spelling array-copy-out-spelling spelling-requires same-bytes-requires returns add-j
+    loop-less loop-again returns-2)

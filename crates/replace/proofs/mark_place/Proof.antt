@@ -1,7 +1,7 @@
 -- `replace::mark_place` meets its contract: its sums and products are of small numbers.
 -- Assumes nothing.
-use borrow.Author.Needs.{needs}
 use native.Mathlib.Omega.{arith}
+use mathlib.Core.Path.{refl}
 use Rattle.rules.proofs.Places.{turn-part, turn-product, new-product}
 use Rattle.replace.proofs.mark_place.Statement.{statement}
 use Rattle.replace.proofs.mark_place.Tie as tie
@@ -25,7 +25,7 @@ add-result-2 c =
     omega (arith, turn-product (c .before .before .before .pre .0) (c .before .before .before .pre .1) (c .before .before .before .pre .2), new-product (c .before .before .before .pre .0) (c .before .before .before .pre .1) (c .before .before .before .pre .2), c .before .before .before .pre .2 .old-below, c .before .before .before .pre .1)
 
 returns : tie.Need-returns
-returns c = search needs
+returns c = refl
 
 pub mark-place-spec : {M : Type 1} → statement M
 mark-place-spec = tie.close (tie.spec mul-result mul-result-2 mul-result-3 add-result add-result-2 returns)

@@ -5,8 +5,8 @@ use Rattle.search.proofs.Queues.{begun-made}
 use Rattle.search.proofs.begin.Statement.{statement}
 use Rattle.search.proofs.begin.Tie as tie
 
-clear-bytes-requires : tie.Need-clear-bytes-requires
-clear-bytes-requires c κs = search needs
+clear-marks-requires : tie.Need-clear-marks-requires
+clear-marks-requires c κs = search needs
 
 clear-numbers-requires : tie.Need-clear-numbers-requires
 clear-numbers-requires c κs = search needs
@@ -29,11 +29,11 @@ same-length-2 c = search needs
 returns : tie.Need-returns
 returns c =
     let entry = c .before .before .before .before .before .before .before .before .before .before in
-    begun-made (entry .args .start) (entry .pre .2) (entry .pre .3) (c .before .before .before .before .before .before .clear-bytes .ensures)
+    begun-made (entry .args .start) (entry .pre .2) (entry .pre .3) (c .before .before .before .before .before .before .clear-marks .ensures)
     (c .before .before .clear-numbers .ensures)
 
 pub begin-spec : {M : Type 1} → statement M
 begin-spec =
     tie.close
-    (tie.spec clear-bytes-requires clear-numbers-requires slice-write-marks cast-scratch slice-write-scratch same-length same-length-2
+    (tie.spec clear-marks-requires clear-numbers-requires slice-write-marks cast-scratch slice-write-scratch same-length same-length-2
     returns)

@@ -11,8 +11,8 @@ depth-requires c κs = search needs
 write-path-requires : tie.Need-write-path-requires
 write-path-requires c κs = search needs
 
-clear-bytes-requires : tie.Need-clear-bytes-requires
-clear-bytes-requires c κs = search needs
+clear-marks-requires : tie.Need-clear-marks-requires
+clear-marks-requires c κs = search needs
 
 clear-numbers-requires : tie.Need-clear-numbers-requires
 clear-numbers-requires c κs = search needs
@@ -28,7 +28,7 @@ same-length-3 c = search needs
 
 returns : tie.Need-returns
 returns c =
-    run-left (c .before .before .before .before .before .before .before .before .before .before .before .before .before .before .depth .ensures) (c .before .before .before .before .before .before .before .before .before .before .write-path .ensures) (c .before .before .before .before .before .before .clear-bytes .ensures) (c .before .before .clear-numbers .ensures)
+    run-left (c .before .before .before .before .before .before .before .before .before .before .before .before .before .before .depth .ensures) (c .before .before .before .before .before .before .before .before .before .before .write-path .ensures) (c .before .before .before .before .before .before .clear-marks .ensures) (c .before .before .clear-numbers .ensures)
 
 pub leave-run-spec : {M : Type 1} → statement M
-leave-run-spec = tie.close (tie.spec depth-requires write-path-requires clear-bytes-requires clear-numbers-requires same-length same-length-2 same-length-3 returns)
+leave-run-spec = tie.close (tie.spec depth-requires write-path-requires clear-marks-requires clear-numbers-requires same-length same-length-2 same-length-3 returns)

@@ -35,20 +35,19 @@ step-into-requires c κs =
       rw (c .wide .ensures) (here .queue .marked _ (here .within)),
     )
 
-mul-path : tie.Need-mul-path Inv-loop μ-loop
-mul-path c = let fits = entry-fits (c .before .before .before .before .loop .inv .here) in search needs
-
-slice-write-path : tie.Need-slice-write-path Inv-loop μ-loop
-slice-write-path c = search needs
+write-step-requires : tie.Need-write-step-requires Inv-loop μ-loop
+write-step-requires c κs =
+    omega (arith, c .before .before .before .before .before .loop .inv .fits, c .before .before .before .before .loop-test .taken)
 
 add-wide : tie.Need-add-wide Inv-loop μ-loop
-add-wide c = let fits = entry-fits (c .before .before .before .before .loop .inv .here) in search needs
+add-wide c = let fits = entry-fits (c .before .before .before .before .before .before .before .before .loop .inv .here) in search needs
 
 mul-wide-2 : tie.Need-mul-wide-2 Inv-loop μ-loop
-mul-wide-2 c = let fits = entry-fits (c .before .before .before .before .loop .inv .here) in search needs
+mul-wide-2 c = let fits = entry-fits (c .before .before .before .before .before .before .before .before .loop .inv .here) in search needs
 
 shared-slice-read-wide-2 : tie.Need-shared-slice-read-wide-2 Inv-loop μ-loop
-shared-slice-read-wide-2 c = let fits = entry-fits (c .before .before .before .before .before .loop .inv .here) in search needs
+shared-slice-read-wide-2 c =
+    let fits = entry-fits (c .before .before .before .before .before .before .before .before .before .loop .inv .here) in search needs
 
 wide-requires-2 : tie.Need-wide-requires-2 Inv-loop μ-loop
 wide-requires-2 c κs = search needs
@@ -58,8 +57,8 @@ loop-less c = search needs
 
 loop-again : tie.Need-loop-again Inv-loop μ-loop
 loop-again c =
-    write-turn (c .before .before .before .before .before .before .loop .inv) (omega arith)
-    (c .before .before .step-into .ensures ∙ rw (c .before .before .before .wide .ensures)) (c .wide2 .ensures)
+    rw (c .before .before .before .before .write-step .ensures)
+    (write-turn (c .before .before .before .before .before .before .before .before .before .before .loop .inv) (omega arith) (c .before .before .before .before .before .before .step-into .ensures ∙ rw (c .before .before .before .before .before .before .before .wide .ensures)) (c .wide2 .ensures))
 
 same-length : tie.Need-same-length Inv-loop μ-loop
 same-length c = search needs
@@ -68,7 +67,4 @@ returns : tie.Need-returns Inv-loop μ-loop
 returns c = write-end (c .before .loop .inv) (omega arith)
 
 pub write-path-spec : {M : Type 1} → statement M
-write-path-spec =
-    tie.close
-    (tie.spec Inv-loop μ-loop loop-holds sub-j mul-wide shared-slice-read-wide wide-requires step-into-requires mul-path
-    slice-write-path add-wide mul-wide-2 shared-slice-read-wide-2 wide-requires-2 loop-less loop-again same-length returns)
+write-path-spec = tie.close (tie.spec Inv-loop μ-loop loop-holds sub-j mul-wide shared-slice-read-wide wide-requires step-into-requires write-step-requires add-wide mul-wide-2 shared-slice-read-wide-2 wide-requires-2 loop-less loop-again same-length returns)
