@@ -62,8 +62,11 @@ returns-4 c =
     (omega arith) (sym (c .before .before .left-chooses .ensures) ∙ c .before .if4 .taken) _ (c .cover .ensures)
 
 cover-requires-2 : tie.Need-cover-requires-2
-cover-requires-2 c κs =
-    (c .before .before .before .before .before .before .before .before .before .before .before .before .pre .1, c .before .before .before .before .before .before .before .before .before .before .before .before .pre .0)
+cover-requires-2 c κs = (
+  c .before .before .before .before .before .before .before .before .before .before .before .before .pre .1,
+  c .before .before
+      .before .before .before .before .before .before .before .before .before .before .pre .0,
+)
 
 returns-5 : tie.Need-returns-5
 returns-5 c =
@@ -72,4 +75,7 @@ returns-5 c =
     (omega arith) (sym (c .before .before .left-chooses .ensures) ∙ c .before .if4 .left) _ (c .cover2 .ensures)
 
 pub compare-spec : {M : Type 1} → statement M
-compare-spec = tie.close (tie.spec kind-number-requires kind-number-requires-2 without-labels-requires returns item-count-requires item-count-requires-2 without-labels-requires-2 returns-2 first-unlike-requires without-labels-requires-3 returns-3 left-chooses-requires cover-requires returns-4 cover-requires-2 returns-5)
+compare-spec =
+    tie.close (tie.spec kind-number-requires kind-number-requires-2 without-labels-requires returns item-count-requires
+    item-count-requires-2 without-labels-requires-2 returns-2 first-unlike-requires without-labels-requires-3 returns-3
+    left-chooses-requires cover-requires returns-4 cover-requires-2 returns-5)

@@ -43,4 +43,5 @@ returns-5 : tie.Need-returns-5
 returns-5 c = sym (ap chooses (c .enum-told5 .given .1))
 
 pub left-chooses-spec : {M : Type 1} → statement M
-left-chooses-spec = tie.close (tie.spec enum-told enum-told-2 enum-told-3 enum-told-4 enum-told-5 returns returns-2 returns-3 returns-4 returns-5)
+left-chooses-spec =
+    tie.close (tie.spec enum-told enum-told-2 enum-told-3 enum-told-4 enum-told-5 returns returns-2 returns-3 returns-4 returns-5)

@@ -54,4 +54,6 @@ returns-5 c =
     step-right-chooses (c .before .before .enum-told5 .given .1) (c .before .choice-step2 .ensures) (c .exchanged .ensures)
 
 pub step-spec : {M : Type 1} → statement M
-step-spec = tie.close (tie.spec enum-told enum-told-2 message-step-requires enum-told-3 message-step-requires-2 enum-told-4 choice-step-requires enum-told-5 choice-step-requires-2 exchanged-requires returns returns-2 returns-3 returns-4 returns-5)
+step-spec =
+    tie.close (tie.spec enum-told enum-told-2 message-step-requires enum-told-3 message-step-requires-2 enum-told-4
+    choice-step-requires enum-told-5 choice-step-requires-2 exchanged-requires returns returns-2 returns-3 returns-4 returns-5)

@@ -23,7 +23,8 @@ label-count-requires c κs = search needs
 
 returns-2 : tie.Need-returns-2
 returns-2 c =
-    rw (c .label-count .ensures) (left-steps-below _ _ (c .before .before .before .before .before .pre .1) (sym (c .before .before .left-chooses .ensures) ∙ c .before .if2 .taken))
+    rw (c .label-count .ensures) (left-steps-below _ _ (c .before .before .before .before .before .pre .1)
+    (sym (c .before .before .left-chooses .ensures) ∙ c .before .if2 .taken))
 
 label-count-requires-2 : tie.Need-label-count-requires-2
 label-count-requires-2 c κs = search needs
@@ -31,7 +32,11 @@ label-count-requires-2 c κs = search needs
 returns-3 : tie.Need-returns-3
 returns-3 c =
     rw (c .label-count2 .ensures)
-    (right-steps-below _ _ (c .before .before .before .before .before .pre .2) (sym (c .before .before .before .before .is-message .ensures) ∙ c .before .before .before .if1 .left) (sym (c .before .before .left-chooses .ensures) ∙ c .before .if2 .left))
+    (right-steps-below _ _ (c .before .before .before .before .before .pre .2)
+    (sym (c .before .before .before .before .is-message .ensures) ∙ c .before .before .before .if1 .left)
+    (sym (c .before .before .left-chooses .ensures) ∙ c .before .if2 .left))
 
 pub step-limit-spec : {M : Type 1} → statement M
-step-limit-spec = tie.close (tie.spec is-message-requires add-result returns left-chooses-requires label-count-requires returns-2 label-count-requires-2 returns-3)
+step-limit-spec =
+    tie.close (tie.spec is-message-requires add-result returns left-chooses-requires label-count-requires returns-2
+    label-count-requires-2 returns-3)

@@ -16,7 +16,8 @@ cast-m c = search needs
 
 pair-count-requires : tie.Need-pair-count-requires
 pair-count-requires c κs =
-    (formed (c .before .before .before .before .before .before .before .pre .0) .few-nodes, formed (c .before .before .before .before .before .before .before .pre .1) .few-nodes)
+    let pre = c .before .before .before .before .before .before .before .pre in
+    (formed (pre .0) .few-nodes, formed (pre .1) .few-nodes)
 
 cast-mark-place : tie.Need-cast-mark-place
 cast-mark-place c = search needs
@@ -26,15 +27,28 @@ cast-mark-place-2 c = search needs
 
 mark-place-requires : tie.Need-mark-place-requires
 mark-place-requires c κs =
-    (formed (c .before .before .before .before .before .before .before .before .before .before .pre .0) .few-nodes, formed (c .before .before .before .before .before .before .before .before .before .before .pre .1) .few-nodes, starts-within (formed (c .before .before .before .before .before .before .before .before .before .before .pre .0)) (formed (c .before .before .before .before .before .before .before .before .before .before .pre .1)))
+    let pre = c .before .before .before .before .before .before .before .before .before .before .pre in
+    (formed (pre .0) .few-nodes, formed (pre .1) .few-nodes, starts-within (formed (pre .0)) (formed (pre .1)))
 
 begin-requires : tie.Need-begin-requires
 begin-requires c κs =
-    begin-asks _ _ _ _ (c .before .before .before .before .before .before .before .before .before .before .before .before .before .pre .0) (c .before .before .before .before .before .before .before .before .before .before .before .before .before .pre .1) (c .before .before .before .before .before .pair-count .ensures) (c .before .before .mark-place .ensures) (c .before .before .before .before .before .before .before .before .before .before .before .before .before .pre .2) (c .before .before .before .before .before .before .before .before .before .before .before .before .before .pre .4)
+    let pre = c .before .before .before .before .before .before .before .before .before .before .before .before .before .pre in
+    let pair-count = c .before .before .before .before .before .pair-count in
+    let mark-place = c .before .before .mark-place in
+    begin-asks _ _ _ _ (pre .0) (pre .1) (pair-count .ensures) (mark-place .ensures) (pre .2) (pre .4)
 
 explore-requires : tie.Need-explore-requires
 explore-requires c κs =
-    (formed (c .before .before .before .before .before .before .before .before .before .before .before .before .before .before .before .before .before .before .before .before .pre .0), formed (c .before .before .before .before .before .before .before .before .before .before .before .before .before .before .before .before .before .before .before .before .pre .1), begun-state _ _ _ _ (c .before .before .before .before .before .before .before .before .before .before .before .before .before .before .before .before .before .before .before .before .pre .0) (c .before .before .before .before .before .before .before .before .before .before .before .before .before .before .before .before .before .before .before .before .pre .1) (c .before .before .before .before .before .before .before .before .before .before .before .before .pair-count .ensures) (c .before .before .before .before .before .before .before .before .before .mark-place .ensures) (c .before .before .before .before .before .before .begin .ensures))
+    let pre = c .before .before .before .before .before .before .before .before .before .before .before .before .before .before .before
+    .before .before .before .before .before .pre in
+    let pair-count = c .before .before .before .before .before .before .before .before .before .before .before .before .pair-count in
+    let mark-place = c .before .before .before .before .before .before .before .before .before .mark-place in
+    let begin = c .before .before .before .before .before .before .begin in (
+      formed (pre .0),
+      formed (pre .1),
+      begun-state _ _ _ _ (pre .0) (pre .1) (pair-count .ensures) (mark-place .ensures)
+          (begin .ensures),
+    )
 
 leave-marks-requires : tie.Need-leave-marks-requires
 leave-marks-requires c κs = search needs
@@ -47,25 +61,43 @@ same-length-2 c = search needs
 
 returns : tie.Need-returns
 returns c =
-    decided-yes _ _ _ _ (exact-areas _ _ _ _ (c .before .before .before .before .before .before .before .before .before .before .before .before .before .before .before .before .before .before .before .before .before .before .before .before .before .before .before .before .before .before .before .before .before .pre .0) (c .before .before .before .before .before .before .before .before .before .before .before .before .before .before .before .before .before .before .before .before .before .before .before .before .before .before .before .before .before .before .before .before .before .pre .1) (c .before .before .before .before .before .before .before .before .before .before .before .before .before .before .before .before .before .before .before .before .before .before .before .before .before .before .before .before .before .before .before .before .before .pre .2) (c .before .before .before .before .before .before .before .before .before .before .before .before .before .before .before .before .before .before .before .before .before .before .before .before .before .before .before .before .before .before .before .before .before .pre .3) (c .before .before .before .before .before .before .before .before .before .before .before .before .before .before .before .before .before .before .before .before .before .before .before .before .before .before .before .before .before .before .before .before .before .pre .4)) (c .before .before .before .before .before .before .before .before .before .before .before .before .before .before .before .before .before .before .before .before .before .before .before .before .before .before .before .before .before .before .before .before .before .pre .2) (c .before .before .before .before .before .before .before .before .before .before .before .before .before .before .before .before .before .before .before .before .before .before .before .before .before .before .before .before .before .before .before .before .before .pre .4) (c .before .before .before .before .before .before .before .before .before .before .before .before .explore .ensures) (c .before .before .before .before .before .before .before .if1 .taken) (c .before .before .before .before .leave-marks .ensures .0) (c .before .before .before .before .leave-marks .ensures .1)
+    let pre = c .before .before .before .before .before .before .before .before .before .before .before .before .before .before .before
+    .before .before .before .before .before .before .before .before .before .before .before .before .before .before .before
+    .before .before .before .pre in
+    let explore = c .before .before .before .before .before .before .before .before .before .before .before .before .explore in
+    let if1 = c .before .before .before .before .before .before .before .if1 in
+    let leave-marks = c .before .before .before .before .leave-marks in
+    decided-yes _ _ _ _ (exact-areas _ _ _ _ (pre .0) (pre .1) (pre .2) (pre .3) (pre .4)) (pre .2) (pre .4) (explore .ensures)
+    (if1 .taken) (leave-marks .ensures .0) (leave-marks .ensures .1)
 
 mul-wide : tie.Need-mul-wide
 mul-wide c = omega (arith, ended-read (c .before .before .before .before .before .explore .ensures) (c .if1 .left) .1)
 
 slice-read-wide : tie.Need-slice-read-wide
 slice-read-wide c =
-    omega (arith, ended-read (c .before .before .before .before .before .before .explore .ensures) (c .before .if1 .left) .0)
+    let explore = c .before .before .before .before .before .before .explore in
+    omega (arith, ended-read (explore .ensures) (c .before .if1 .left) .0)
 
 wide-requires : tie.Need-wide-requires
 wide-requires c κs = search needs
 
 leave-run-requires : tie.Need-leave-run-requires
 leave-run-requires c κs =
-    (rw (c .before .before .before .before .before .before .before .before .before .before .before .before .before .before .before .before .before .before .before .before .before .before .before .pair-count .ensures) (ended-entry (c .before .before .before .before .before .before .before .before .before .before .explore .ensures) (c .before .before .before .before .before .if1 .left)), omega (arith, c .before .before .before .before .before .before .before .before .before .before .before .before .before .before .before .before .before .before .before .before .before .before .before .pair-count .ensures, c .before .before .before .before .before .before .before .before .before .before .before .before .before .before .before .before .before .before .before .before .before .before .before .before .before .before .before .before .before .before .before .pre .3))
+    let pair-count = c .before .before .before .before .before .before .before .before .before .before .before .before .before .before
+    .before .before .before .before .before .before .before .before .before .pair-count in
+    let explore = c .before .before .before .before .before .before .before .before .before .before .explore in
+    let if1 = c .before .before .before .before .before .if1 in
+    let pre = c .before .before .before .before .before .before .before .before .before .before .before .before .before .before .before
+    .before .before .before .before .before .before .before .before .before .before .before .before .before .before .before
+    .before .pre in
+    (rw (pair-count .ensures) (ended-entry (explore .ensures) (if1 .left)), omega (arith, pair-count .ensures, pre .3))
 
 found-requires : tie.Need-found-requires
 found-requires c κs =
-    (formed (c .before .before .before .before .before .before .before .before .before .before .before .before .before .before .before .before .before .before .before .before .before .before .before .before .before .before .before .before .before .before .before .before .before .before .before .before .before .before .pre .0) .some-node, formed (c .before .before .before .before .before .before .before .before .before .before .before .before .before .before .before .before .before .before .before .before .before .before .before .before .before .before .before .before .before .before .before .before .before .before .before .before .before .before .pre .1) .some-node)
+    let pre = c .before .before .before .before .before .before .before .before .before .before .before .before .before .before .before
+    .before .before .before .before .before .before .before .before .before .before .before .before .before .before .before
+    .before .before .before .before .before .before .before .before .pre in
+    (formed (pre .0) .some-node, formed (pre .1) .some-node)
 
 same-length-3 : tie.Need-same-length-3
 same-length-3 c = search needs
@@ -78,7 +110,23 @@ same-length-5 c = search needs
 
 returns-2 : tie.Need-returns-2
 returns-2 c =
-    decided-no _ _ _ _ (exact-areas _ _ _ _ (c .before .before .before .before .before .before .before .before .before .before .before .before .before .before .before .before .before .before .before .before .before .before .before .before .before .before .before .before .before .before .before .before .before .before .before .before .before .before .before .pre .0) (c .before .before .before .before .before .before .before .before .before .before .before .before .before .before .before .before .before .before .before .before .before .before .before .before .before .before .before .before .before .before .before .before .before .before .before .before .before .before .before .pre .1) (c .before .before .before .before .before .before .before .before .before .before .before .before .before .before .before .before .before .before .before .before .before .before .before .before .before .before .before .before .before .before .before .before .before .before .before .before .before .before .before .pre .2) (c .before .before .before .before .before .before .before .before .before .before .before .before .before .before .before .before .before .before .before .before .before .before .before .before .before .before .before .before .before .before .before .before .before .before .before .before .before .before .before .pre .3) (c .before .before .before .before .before .before .before .before .before .before .before .before .before .before .before .before .before .before .before .before .before .before .before .before .before .before .before .before .before .before .before .before .before .before .before .before .before .before .before .pre .4)) (c .before .before .before .before .before .before .before .before .before .before .before .before .before .before .before .before .before .before .before .before .before .before .before .before .before .before .before .before .before .before .before .before .before .before .before .before .before .before .before .pre .2) (c .before .before .before .before .before .before .before .before .before .before .before .before .before .before .before .before .before .before .before .before .before .before .before .before .before .before .before .before .before .before .before .before .before .before .before .before .before .before .before .pre .4) (c .before .before .before .before .before .before .before .before .before .before .before .before .before .before .before .before .before .before .explore .ensures) (c .before .before .before .before .before .before .before .before .before .before .before .before .before .if1 .left) (c .before .before .before .before .before .before .before .before .before .before .before .wide .ensures) (rw (← c .before .before .before .before .before .before .before .before .before .before .before .before .before .before .before .before .before .before .before .before .before .before .before .before .before .before .before .before .before .before .before .pair-count .ensures) (c .before .before .before .before .before .before .before .leave-run .ensures)) (c .found .ensures)
+    let pre = c .before .before .before .before .before .before .before .before .before .before .before .before .before .before .before
+    .before .before .before .before .before .before .before .before .before .before .before .before .before .before .before
+    .before .before .before .before .before .before .before .before .before .pre in
+    let explore = c .before .before .before .before .before .before .before .before .before .before .before .before .before .before
+    .before .before .before .before .explore in
+    let if1 = c .before .before .before .before .before .before .before .before .before .before .before .before .before .if1 in
+    let wide = c .before .before .before .before .before .before .before .before .before .before .before .wide in
+    let pair-count = c .before .before .before .before .before .before .before .before .before .before .before .before .before .before
+    .before .before .before .before .before .before .before .before .before .before .before .before .before .before .before
+    .before .before .pair-count in
+    let leave-run = c .before .before .before .before .before .before .before .leave-run in
+    decided-no _ _ _ _ (exact-areas _ _ _ _ (pre .0) (pre .1) (pre .2) (pre .3) (pre .4)) (pre .2) (pre .4) (explore .ensures)
+    (if1 .left) (wide .ensures) (rw (← pair-count .ensures) (leave-run .ensures)) (c .found .ensures)
 
 pub decide-spec : {M : Type 1} → statement M
-decide-spec = tie.close (tie.spec cast-n cast-m pair-count-requires cast-mark-place cast-mark-place-2 mark-place-requires begin-requires explore-requires leave-marks-requires same-length same-length-2 returns mul-wide slice-read-wide wide-requires leave-run-requires found-requires same-length-3 same-length-4 same-length-5 returns-2)
+decide-spec =
+    tie.close
+    (tie.spec cast-n cast-m pair-count-requires cast-mark-place cast-mark-place-2 mark-place-requires begin-requires
+    explore-requires leave-marks-requires same-length same-length-2 returns mul-wide slice-read-wide wide-requires
+    leave-run-requires found-requires same-length-3 same-length-4 same-length-5 returns-2)

@@ -20,31 +20,45 @@ abbrev μ-loop : tie.MeasureT-loop
 μ-loop left right places sizes turn at tail marks₀ scratch₀ limit end₀ s₀ marks scratch end s = limit - s
 
 step-limit-requires : tie.Need-step-limit-requires Inv-loop μ-loop
-step-limit-requires c κs =
-    (c .before .before .pre .1 .left-listed .few-items, c .before .before .pre .1 .left-listed .few-labels, c .before .before .pre .1 .right-listed .few-labels)
+step-limit-requires c κs = (
+  c .before .before .pre .1 .left-listed .few-items,
+  c .before .before .pre .1 .left-listed .few-labels,
+  c .before .before .pre .1
+      .right-listed .few-labels,
+)
 
 loop-holds : tie.Need-loop-holds Inv-loop μ-loop
 loop-holds c = (steps-none, omega arith, refl, refl)
 
 take-step-requires : tie.Need-take-step-requires Inv-loop μ-loop
 take-step-requires c κs =
-    (ready-after (c .before .before .before .before .before .before .before .pre .0) (c .before .before .before .before .before .before .before .pre .1) (c .before .before .before .loop .inv .0), c .before .before .before .before .before .before .before .pre .1, omega (arith, c .before .before .before .before .step-limit .ensures .few, c .before .before .loop-test .taken))
+    let pre = c .before .before .before .before .before .before .before .pre in
+    let loop = c .before .before .before .loop in
+    let step-limit = c .before .before .before .before .step-limit in
+    let loop-test = c .before .before .loop-test in
+    (ready-after (pre .0) (pre .1) (loop .inv .0), pre .1, omega (arith, step-limit .ensures .few, loop-test .taken))
 
 add-s : tie.Need-add-s Inv-loop μ-loop
 add-s c =
-    omega (arith, c .before .before .before .before .before .before .before .before .before .step-limit .ensures .few, c .before .before .before .before .before .before .before .loop-test .taken)
+    let step-limit = c .before .before .before .before .before .before .before .before .before .step-limit in
+    let loop-test = c .before .before .before .before .before .before .before .loop-test in
+    omega (arith, step-limit .ensures .few, loop-test .taken)
 
 loop-less : tie.Need-loop-less Inv-loop μ-loop
 loop-less c = omega (arith, c .before .before .before .before .before .before .before .loop-test .taken)
 
 loop-again : tie.Need-loop-again Inv-loop μ-loop
 loop-again c =
-    let T = steps-more (c .before .before .before .before .before .before .before .before .loop .inv .0) (c .before .before .before .before .take-step .ensures) in
-    let Y = ready-after (c .before .before .before .before .before .before .before .before .before .before .before .before .pre .0) (c .before .before .before .before .before .before .before .before .before .before .before .before .pre .1) T in (
+    let loop = c .before .before .before .before .before .before .before .before .loop in
+    let take-step = c .before .before .before .before .take-step in
+    let pre = c .before .before .before .before .before .before .before .before .before .before .before .before .pre in
+    let loop-test = c .before .before .before .before .before .before .before .loop-test in
+    let T = steps-more (loop .inv .0) (take-step .ensures) in
+    let Y = ready-after (pre .0) (pre .1) T in (
       T,
-      omega (arith, c .before .before .before .before .before .before .before .loop-test .taken),
-      Y .queue .marks-long ∙ sym (c .before .before .before .before .before .before .before .before .before .before .before .before .pre .0 .queue .marks-long),
-      Y .queue .scratch-long ∙ sym (c .before .before .before .before .before .before .before .before .before .before .before .before .pre .0 .queue .scratch-long),
+      omega (arith, loop-test .taken),
+      Y .queue .marks-long ∙ sym (pre .0 .queue .marks-long),
+      Y .queue .scratch-long ∙ sym (pre .0 .queue .scratch-long),
     )
 
 same-length : tie.Need-same-length Inv-loop μ-loop
@@ -55,7 +69,11 @@ same-length-2 c = search needs
 
 returns : tie.Need-returns Inv-loop μ-loop
 returns c =
-    steps-all (c .before .loop .inv .0) (c .before .before .step-limit .ensures) (omega (arith, c .before .loop .inv .1, c .loop-test .left))
+    let step-limit = c .before .before .step-limit in
+    steps-all (c .before .loop .inv .0) (step-limit .ensures) (omega (arith, c .before .loop .inv .1, c .loop-test .left))
 
 pub expand-spec : {M : Type 1} → statement M
-expand-spec = tie.close (tie.spec Inv-loop μ-loop step-limit-requires loop-holds take-step-requires add-s loop-less loop-again same-length same-length-2 returns)
+expand-spec =
+    tie.close
+    (tie.spec Inv-loop μ-loop step-limit-requires loop-holds take-step-requires add-s loop-less loop-again same-length same-length-2
+    returns)

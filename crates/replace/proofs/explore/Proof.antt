@@ -30,11 +30,18 @@ loop-holds c = c .before .before .before .before .pre .2
 
 mul-wide : tie.Need-mul-wide Inv-loop μ-loop
 mul-wide c =
-    omega (arith, entry-read _ _ _ _ (c .before .before .before .before .before .before .pre .0) (c .before .before .before .before .before .before .pre .1) (c .before .loop .inv) (c .loop-test .taken) refl)
+    let pre = c .before .before .before .before .before .before .pre in
+    omega (arith, entry-read _ _ _ _ (pre .0) (pre .1) (c .before .loop .inv) (c .loop-test .taken) refl)
 
 slice-read-wide : tie.Need-slice-read-wide Inv-loop μ-loop
 slice-read-wide c =
-    omega (arith, entry-room _ _ _ _ (c .before .before .before .before .before .before .before .pre .0) (c .before .before .before .before .before .before .before .pre .1) (c .before .before .loop .inv) (c .before .loop-test .taken) refl, c .before .before .loop .inv .queue .scratch-long)
+    let pre = c .before .before .before .before .before .before .before .pre in
+    omega (
+      arith,
+      entry-room _ _ _ _ (pre .0) (pre .1) (c .before .before .loop .inv) (c .before .loop-test .taken) refl,
+      c .before
+          .before .loop .inv .queue .scratch-long,
+    )
 
 wide-requires : tie.Need-wide-requires Inv-loop μ-loop
 wide-requires c κs = search needs
@@ -50,68 +57,166 @@ rem-j c = omega (arith, c .before .before .before .before .before .before .befor
 
 mul-x : tie.Need-mul-x Inv-loop μ-loop
 mul-x c =
-    omega (arith, entry-inside _ _ _ _ (c .before .before .before .before .before .before .before .before .pre .0) (c .before .before .before .before .before .before .before .before .pre .1) (c .before .before .before .loop .inv) (c .before .before .loop-test .taken) (c .wide .ensures) .new-below, c .before .before .before .before .before .before .before .before .pre .0 .few-nodes)
+    let pre = c .before .before .before .before .before .before .before .before .pre in
+    let loop = c .before .before .before .loop in
+    let loop-test = c .before .before .loop-test in
+    omega (
+      arith,
+      entry-inside _ _ _ _ (pre .0) (pre .1) (loop .inv) (loop-test .taken) (c .wide .ensures) .new-below,
+      pre .0
+          .few-nodes,
+    )
 
 element-copy-out-x : tie.Need-element-copy-out-x Inv-loop μ-loop
 element-copy-out-x c =
-    omega (arith, entry-inside _ _ _ _ (c .before .before .before .before .before .before .before .before .pre .0) (c .before .before .before .before .before .before .before .before .pre .1) (c .before .before .before .loop .inv) (c .before .before .loop-test .taken) (c .wide .ensures) .new-below, c .before .before .before .before .before .before .before .before .pre .0 .few-nodes)
+    let pre = c .before .before .before .before .before .before .before .before .pre in
+    let loop = c .before .before .before .loop in
+    let loop-test = c .before .before .loop-test in
+    omega (
+      arith,
+      entry-inside _ _ _ _ (pre .0) (pre .1) (loop .inv) (loop-test .taken) (c .wide .ensures) .new-below,
+      pre .0
+          .few-nodes,
+    )
 
 mul-y : tie.Need-mul-y Inv-loop μ-loop
 mul-y c =
-    omega (arith, entry-inside _ _ _ _ (c .before .before .before .before .before .before .before .before .before .pre .0) (c .before .before .before .before .before .before .before .before .before .pre .1) (c .before .before .before .before .loop .inv) (c .before .before .before .loop-test .taken) (c .before .wide .ensures) .old-below, c .before .before .before .before .before .before .before .before .before .pre .1 .few-nodes)
+    let pre = c .before .before .before .before .before .before .before .before .before .pre in
+    let loop = c .before .before .before .before .loop in
+    let loop-test = c .before .before .before .loop-test in
+    omega (
+      arith,
+      entry-inside _ _ _ _ (pre .0) (pre .1) (loop .inv) (loop-test .taken) (c .before .wide .ensures) .old-below,
+      pre .1
+          .few-nodes,
+    )
 
 element-copy-out-y : tie.Need-element-copy-out-y Inv-loop μ-loop
 element-copy-out-y c =
-    omega (arith, entry-inside _ _ _ _ (c .before .before .before .before .before .before .before .before .before .pre .0) (c .before .before .before .before .before .before .before .before .before .pre .1) (c .before .before .before .before .loop .inv) (c .before .before .before .loop-test .taken) (c .before .wide .ensures) .old-below, c .before .before .before .before .before .before .before .before .before .pre .1 .few-nodes)
+    let pre = c .before .before .before .before .before .before .before .before .before .pre in
+    let loop = c .before .before .before .before .loop in
+    let loop-test = c .before .before .before .loop-test in
+    omega (
+      arith,
+      entry-inside _ _ _ _ (pre .0) (pre .1) (loop .inv) (loop-test .taken) (c .before .wide .ensures) .old-below,
+      pre .1
+          .few-nodes,
+    )
 
 div-take-nodes : tie.Need-div-take-nodes Inv-loop μ-loop
 div-take-nodes c = omega (arith, c .before .before .before .before .before .before .before .before .before .before .pre .1 .some-node)
 
 div-take-nodes-2 : tie.Need-div-take-nodes-2 Inv-loop μ-loop
-div-take-nodes-2 c = omega (arith, c .before .before .before .before .before .before .before .before .before .before .pre .0 .some-node)
+div-take-nodes-2 c =
+    let pre = c .before .before .before .before .before .before .before .before .before .before .pre in
+    omega (arith, pre .0 .some-node)
 
 take-nodes-requires : tie.Need-take-nodes-requires Inv-loop μ-loop
 take-nodes-requires c κs =
-    (entry-ready _ _ _ _ (c .before .before .before .before .before .before .before .before .before .before .before .before .pre .0) (c .before .before .before .before .before .before .before .before .before .before .before .before .pre .1) (c .before .before .before .before .before .before .before .loop .inv) (c .before .before .before .before .before .before .loop-test .taken) (c .before .before .before .before .wide .ensures), entry-nodes _ _ _ _ (c .before .before .before .before .before .before .before .before .before .before .before .before .pre .0) (c .before .before .before .before .before .before .before .before .before .before .before .before .pre .1) (c .before .before .before .before .before .before .before .loop .inv) (c .before .before .before .before .before .before .loop-test .taken) (c .before .before .before .before .wide .ensures))
+    let pre = c .before .before .before .before .before .before .before .before .before .before .before .before .pre in
+    let loop = c .before .before .before .before .before .before .before .loop in
+    let loop-test = c .before .before .before .before .before .before .loop-test in
+    let wide = c .before .before .before .before .wide in (
+      entry-ready _ _ _ _ (pre .0) (pre .1) (loop .inv) (loop-test .taken) (wide .ensures),
+      entry-nodes _ _ _ _ (pre .0) (pre .1)
+          (loop .inv) (loop-test .taken) (wide .ensures),
+    )
 
 is-nothing-requires : tie.Need-is-nothing-requires Inv-loop μ-loop
 is-nothing-requires c κs = search needs
 
 same-length : tie.Need-same-length Inv-loop μ-loop
 same-length c =
-    entry-wrong _ _ _ _ (c .before .before .before .before .before .before .before .before .before .before .before .before .before .before .before .before .before .before .before .pre .0) (c .before .before .before .before .before .before .before .before .before .before .before .before .before .before .before .before .before .before .before .pre .1) (c .before .before .before .before .before .before .before .before .before .before .before .before .before .before .loop .inv) (c .before .before .before .before .before .before .before .before .before .before .before .before .before .loop-test .taken) (c .before .before .before .before .before .before .before .before .before .before .before .wide .ensures) (c .before .before .before .before .before .before .take-nodes .ensures) (fits-not _ (sym (c .before .is-nothing .ensures) ∙ not-true _ (c .if1 .taken))) .state .queue .marks-long ∙ sym (c .before .before .before .before .before .before .before .before .before .before .before .before .before .before .before .before .before .before .before .pre .2 .queue .marks-long)
+    let pre = c .before .before .before .before .before .before .before .before .before .before .before .before .before .before .before
+    .before .before .before .before .pre in
+    let loop = c .before .before .before .before .before .before .before .before .before .before .before .before .before .before .loop
+    in
+    let loop-test = c .before .before .before .before .before .before .before .before .before .before .before .before .before .loop-test
+    in
+    let wide = c .before .before .before .before .before .before .before .before .before .before .before .wide in
+    let take-nodes = c .before .before .before .before .before .before .take-nodes in
+    entry-wrong _ _ _ _ (pre .0) (pre .1) (loop .inv) (loop-test .taken) (wide .ensures) (take-nodes .ensures)
+    (fits-not _ (sym (c .before .is-nothing .ensures) ∙ not-true _ (c .if1 .taken))) .state .queue .marks-long ∙ sym
+    (pre .2 .queue .marks-long)
 
 same-length-2 : tie.Need-same-length-2 Inv-loop μ-loop
 same-length-2 c =
-    entry-wrong _ _ _ _ (c .before .before .before .before .before .before .before .before .before .before .before .before .before .before .before .before .before .before .before .pre .0) (c .before .before .before .before .before .before .before .before .before .before .before .before .before .before .before .before .before .before .before .pre .1) (c .before .before .before .before .before .before .before .before .before .before .before .before .before .before .loop .inv) (c .before .before .before .before .before .before .before .before .before .before .before .before .before .loop-test .taken) (c .before .before .before .before .before .before .before .before .before .before .before .wide .ensures) (c .before .before .before .before .before .before .take-nodes .ensures) (fits-not _ (sym (c .before .is-nothing .ensures) ∙ not-true _ (c .if1 .taken))) .state .queue .scratch-long ∙ sym (c .before .before .before .before .before .before .before .before .before .before .before .before .before .before .before .before .before .before .before .pre .2 .queue .scratch-long)
+    let pre = c .before .before .before .before .before .before .before .before .before .before .before .before .before .before .before
+    .before .before .before .before .pre in
+    let loop = c .before .before .before .before .before .before .before .before .before .before .before .before .before .before .loop
+    in
+    let loop-test = c .before .before .before .before .before .before .before .before .before .before .before .before .before .loop-test
+    in
+    let wide = c .before .before .before .before .before .before .before .before .before .before .before .wide in
+    let take-nodes = c .before .before .before .before .before .before .take-nodes in
+    entry-wrong _ _ _ _ (pre .0) (pre .1) (loop .inv) (loop-test .taken) (wide .ensures) (take-nodes .ensures)
+    (fits-not _ (sym (c .before .is-nothing .ensures) ∙ not-true _ (c .if1 .taken))) .state .queue .scratch-long ∙ sym
+    (pre .2 .queue .scratch-long)
 
 returns : tie.Need-returns Inv-loop μ-loop
 returns c =
-    entry-wrong _ _ _ _ (c .before .before .before .before .before .before .before .before .before .before .before .before .before .before .before .before .before .before .before .pre .0) (c .before .before .before .before .before .before .before .before .before .before .before .before .before .before .before .before .before .before .before .pre .1) (c .before .before .before .before .before .before .before .before .before .before .before .before .before .before .loop .inv) (c .before .before .before .before .before .before .before .before .before .before .before .before .before .loop-test .taken) (c .before .before .before .before .before .before .before .before .before .before .before .wide .ensures) (c .before .before .before .before .before .before .take-nodes .ensures) (fits-not _ (sym (c .before .is-nothing .ensures) ∙ not-true _ (c .if1 .taken)))
+    let pre = c .before .before .before .before .before .before .before .before .before .before .before .before .before .before .before
+    .before .before .before .before .pre in
+    let loop = c .before .before .before .before .before .before .before .before .before .before .before .before .before .before .loop
+    in
+    let loop-test = c .before .before .before .before .before .before .before .before .before .before .before .before .before .loop-test
+    in
+    let wide = c .before .before .before .before .before .before .before .before .before .before .before .wide in
+    let take-nodes = c .before .before .before .before .before .before .take-nodes in
+    entry-wrong _ _ _ _ (pre .0) (pre .1) (loop .inv) (loop-test .taken) (wide .ensures) (take-nodes .ensures)
+    (fits-not _ (sym (c .before .is-nothing .ensures) ∙ not-true _ (c .if1 .taken)))
 
 add-at : tie.Need-add-at Inv-loop μ-loop
 add-at c =
-    omega (arith, entry-read _ _ _ _ (c .before .before .before .before .before .before .before .before .before .before .before .before .before .before .before .before .before .before .before .pre .0) (c .before .before .before .before .before .before .before .before .before .before .before .before .before .before .before .before .before .before .before .pre .1) (c .before .before .before .before .before .before .before .before .before .before .before .before .before .before .loop .inv) (c .before .before .before .before .before .before .before .before .before .before .before .before .before .loop-test .taken) refl)
+    let pre = c .before .before .before .before .before .before .before .before .before .before .before .before .before .before .before
+    .before .before .before .before .pre in
+    let loop = c .before .before .before .before .before .before .before .before .before .before .before .before .before .before .loop
+    in
+    let loop-test = c .before .before .before .before .before .before .before .before .before .before .before .before .before .loop-test
+    in
+    omega (arith, entry-read _ _ _ _ (pre .0) (pre .1) (loop .inv) (loop-test .taken) refl)
 
 loop-less : tie.Need-loop-less Inv-loop μ-loop
 loop-less c =
-    omega (arith, entry-room _ _ _ _ (c .before .before .before .before .before .before .before .before .before .before .before .before .before .before .before .before .before .before .before .pre .0) (c .before .before .before .before .before .before .before .before .before .before .before .before .before .before .before .before .before .before .before .pre .1) (c .before .before .before .before .before .before .before .before .before .before .before .before .before .before .loop .inv) (c .before .before .before .before .before .before .before .before .before .before .before .before .before .loop-test .taken) refl)
+    let pre = c .before .before .before .before .before .before .before .before .before .before .before .before .before .before .before
+    .before .before .before .before .pre in
+    let loop = c .before .before .before .before .before .before .before .before .before .before .before .before .before .before .loop
+    in
+    let loop-test = c .before .before .before .before .before .before .before .before .before .before .before .before .before .loop-test
+    in
+    omega (arith, entry-room _ _ _ _ (pre .0) (pre .1) (loop .inv) (loop-test .taken) refl)
 
 loop-again : tie.Need-loop-again Inv-loop μ-loop
 loop-again c =
-    entry-expanded _ _ _ _ (c .before .before .before .before .before .before .before .before .before .before .before .before .before .before .before .before .before .before .before .pre .0) (c .before .before .before .before .before .before .before .before .before .before .before .before .before .before .before .before .before .before .before .pre .1) (c .before .before .before .before .before .before .before .before .before .before .before .before .before .before .loop .inv) (c .before .before .before .before .before .before .before .before .before .before .before .before .before .loop-test .taken) (c .before .before .before .before .before .before .before .before .before .before .before .wide .ensures) (c .before .before .before .before .before .before .take-nodes .ensures) (fits-nothing _ (sym (c .before .is-nothing .ensures) ∙ not-false _ (c .if1 .left)))
+    let pre = c .before .before .before .before .before .before .before .before .before .before .before .before .before .before .before
+    .before .before .before .before .pre in
+    let loop = c .before .before .before .before .before .before .before .before .before .before .before .before .before .before .loop
+    in
+    let loop-test = c .before .before .before .before .before .before .before .before .before .before .before .before .before .loop-test
+    in
+    let wide = c .before .before .before .before .before .before .before .before .before .before .before .wide in
+    let take-nodes = c .before .before .before .before .before .before .take-nodes in
+    entry-expanded _ _ _ _ (pre .0) (pre .1) (loop .inv) (loop-test .taken) (wide .ensures) (take-nodes .ensures)
+    (fits-nothing _ (sym (c .before .is-nothing .ensures) ∙ not-false _ (c .if1 .left)))
 
 same-length-3 : tie.Need-same-length-3 Inv-loop μ-loop
 same-length-3 c =
-    c .before .loop .inv .queue .marks-long ∙ sym (c .before .before .before .before .before .before .pre .2 .queue .marks-long)
+    let pre = c .before .before .before .before .before .before .pre in
+    c .before .loop .inv .queue .marks-long ∙ sym (pre .2 .queue .marks-long)
 
 same-length-4 : tie.Need-same-length-4 Inv-loop μ-loop
 same-length-4 c =
-    c .before .loop .inv .queue .scratch-long ∙ sym (c .before .before .before .before .before .before .pre .2 .queue .scratch-long)
+    let pre = c .before .before .before .before .before .before .pre in
+    c .before .loop .inv .queue .scratch-long ∙ sym (pre .2 .queue .scratch-long)
 
 returns-2 : tie.Need-returns-2 Inv-loop μ-loop
 returns-2 c =
-    ended-all _ _ _ _ (c .before .before .before .before .before .before .pre .0) (c .before .before .before .before .before .before .pre .1) (c .before .loop .inv) (c .loop-test .left)
+    let pre = c .before .before .before .before .before .before .pre in
+    ended-all _ _ _ _ (pre .0) (pre .1) (c .before .loop .inv) (c .loop-test .left)
 
 pub explore-spec : {M : Type 1} → statement M
-explore-spec = tie.close (tie.spec Inv-loop μ-loop cast-n cast-m loop-holds mul-wide slice-read-wide wide-requires div-i rem-i rem-j mul-x element-copy-out-x mul-y element-copy-out-y div-take-nodes div-take-nodes-2 take-nodes-requires is-nothing-requires same-length same-length-2 returns add-at loop-less loop-again same-length-3 same-length-4 returns-2)
+explore-spec =
+    tie.close
+    (tie.spec Inv-loop μ-loop cast-n cast-m loop-holds mul-wide slice-read-wide wide-requires div-i rem-i rem-j mul-x
+    element-copy-out-x mul-y element-copy-out-y div-take-nodes div-take-nodes-2 take-nodes-requires is-nothing-requires same-length
+    same-length-2 returns add-at loop-less loop-again same-length-3 same-length-4 returns-2)

@@ -14,15 +14,18 @@ mul-result-2 c = omega (arith, turn-product (c .before .before .pre .0) (c .befo
 
 mul-result-3 : tie.Need-mul-result-3
 mul-result-3 c =
-    omega (arith, new-product (c .before .before .before .pre .0) (c .before .before .before .pre .1) (c .before .before .before .pre .2))
+    let pre = c .before .before .before .pre in
+    omega (arith, new-product (pre .0) (pre .1) (pre .2))
 
 add-result : tie.Need-add-result
 add-result c =
-    omega (arith, turn-product (c .before .before .before .pre .0) (c .before .before .before .pre .1) (c .before .before .before .pre .2), new-product (c .before .before .before .pre .0) (c .before .before .before .pre .1) (c .before .before .before .pre .2))
+    let pre = c .before .before .before .pre in
+    omega (arith, turn-product (pre .0) (pre .1) (pre .2), new-product (pre .0) (pre .1) (pre .2))
 
 add-result-2 : tie.Need-add-result-2
 add-result-2 c =
-    omega (arith, turn-product (c .before .before .before .pre .0) (c .before .before .before .pre .1) (c .before .before .before .pre .2), new-product (c .before .before .before .pre .0) (c .before .before .before .pre .1) (c .before .before .before .pre .2), c .before .before .before .pre .2 .old-below, c .before .before .before .pre .1)
+    let pre = c .before .before .before .pre in
+    omega (arith, turn-product (pre .0) (pre .1) (pre .2), new-product (pre .0) (pre .1) (pre .2), pre .2 .old-below, pre .1)
 
 returns : tie.Need-returns
 returns c = refl

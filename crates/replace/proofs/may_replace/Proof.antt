@@ -22,7 +22,9 @@ well-formed-requires-2 c κs = search needs
 
 returns-2 : tie.Need-returns-2
 returns-2 c =
-    old-not-formed (sym (c .before .before .before .well-formed .ensures) ∙ not-false _ (c .before .before .if1 .left)) (sym (c .before .well-formed2 .ensures) ∙ not-true _ (c .if2 .taken)) refl
+    let well-formed = c .before .before .before .well-formed in
+    old-not-formed (sym (well-formed .ensures) ∙ not-false _ (c .before .before .if1 .left))
+    (sym (c .before .well-formed2 .ensures) ∙ not-true _ (c .if2 .taken)) refl
 
 cast-n : tie.Need-cast-n
 cast-n c = search needs
@@ -32,23 +34,59 @@ cast-m c = search needs
 
 pair-count-requires : tie.Need-pair-count-requires
 pair-count-requires c κs =
-    (formed (sym (c .before .before .before .before .before .well-formed .ensures) ∙ not-false _ (c .before .before .before .before .if1 .left)) .few-nodes, formed (sym (c .before .before .before .well-formed2 .ensures) ∙ not-false _ (c .before .before .if2 .left)) .few-nodes)
+    let well-formed = c .before .before .before .before .before .well-formed in
+    let if1 = c .before .before .before .before .if1 in
+    let well-formed2 = c .before .before .before .well-formed2 in (
+      formed (sym (well-formed .ensures) ∙ not-false _ (if1 .left)) .few-nodes,
+      formed
+          (sym (well-formed2 .ensures) ∙ not-false _ (c .before .before .if2 .left)) .few-nodes,
+    )
 
 returns-3 : tie.Need-returns-3
 returns-3 c =
-    marks-short (sym (c .before .before .before .before .before .before .before .well-formed .ensures) ∙ not-false _ (c .before .before .before .before .before .before .if1 .left)) (sym (c .before .before .before .before .before .well-formed2 .ensures) ∙ not-false _ (c .before .before .before .before .if2 .left)) (omega (arith, c .if3 .taken, c .before .pair-count .ensures)) refl
+    let well-formed = c .before .before .before .before .before .before .before .well-formed in
+    let if1 = c .before .before .before .before .before .before .if1 in
+    let well-formed2 = c .before .before .before .before .before .well-formed2 in
+    let if2 = c .before .before .before .before .if2 in
+    marks-short (sym (well-formed .ensures) ∙ not-false _ (if1 .left)) (sym (well-formed2 .ensures) ∙ not-false _ (if2 .left))
+    (omega (arith, c .if3 .taken, c .before .pair-count .ensures)) refl
 
 returns-4 : tie.Need-returns-4
 returns-4 c =
-    path-short (sym (c .before .before .before .before .before .before .before .before .well-formed .ensures) ∙ not-false _ (c .before .before .before .before .before .before .before .if1 .left)) (sym (c .before .before .before .before .before .before .well-formed2 .ensures) ∙ not-false _ (c .before .before .before .before .before .if2 .left)) (omega (arith, c .before .if3 .left, c .before .before .pair-count .ensures)) (omega (arith, c .if4 .taken, c .before .before .pair-count .ensures)) refl
+    let well-formed = c .before .before .before .before .before .before .before .before .well-formed in
+    let if1 = c .before .before .before .before .before .before .before .if1 in
+    let well-formed2 = c .before .before .before .before .before .before .well-formed2 in
+    let if2 = c .before .before .before .before .before .if2 in
+    let pair-count = c .before .before .pair-count in
+    path-short (sym (well-formed .ensures) ∙ not-false _ (if1 .left)) (sym (well-formed2 .ensures) ∙ not-false _ (if2 .left))
+    (omega (arith, c .before .if3 .left, pair-count .ensures)) (omega (arith, c .if4 .taken, pair-count .ensures)) refl
 
 add-twice : tie.Need-add-twice
 add-twice c =
-    omega (arith, c .before .before .pair-count .ensures, pairs-few (formed (sym (c .before .before .before .before .before .before .before .before .well-formed .ensures) ∙ not-false _ (c .before .before .before .before .before .before .before .if1 .left)) .few-nodes) (formed (sym (c .before .before .before .before .before .before .well-formed2 .ensures) ∙ not-false _ (c .before .before .before .before .before .if2 .left)) .few-nodes))
+    let pair-count = c .before .before .pair-count in
+    let well-formed = c .before .before .before .before .before .before .before .before .well-formed in
+    let if1 = c .before .before .before .before .before .before .before .if1 in
+    let well-formed2 = c .before .before .before .before .before .before .well-formed2 in
+    let if2 = c .before .before .before .before .before .if2 in
+    omega (
+      arith,
+      pair-count .ensures,
+      pairs-few (formed (sym (well-formed .ensures) ∙ not-false _ (if1 .left)) .few-nodes)
+          (formed (sym (well-formed2 .ensures) ∙ not-false _ (if2 .left)) .few-nodes),
+    )
 
 returns-5 : tie.Need-returns-5
 returns-5 c =
-    scratch-short (sym (c .before .before .before .before .before .before .before .before .before .well-formed .ensures) ∙ not-false _ (c .before .before .before .before .before .before .before .before .if1 .left)) (sym (c .before .before .before .before .before .before .before .well-formed2 .ensures) ∙ not-false _ (c .before .before .before .before .before .before .if2 .left)) (omega (arith, c .before .before .if3 .left, c .before .before .before .pair-count .ensures)) (omega (arith, c .before .if4 .left, c .before .before .before .pair-count .ensures)) (omega (arith, c .if5 .taken, twice-scratch (c .before .before .before .before .before .before .before .before .before .before .before .before .before .before .before .args .new) (c .before .before .before .before .before .before .before .before .before .before .before .before .before .before .before .args .old) (c .before .before .before .pair-count .ensures))) refl
+    let well-formed = c .before .before .before .before .before .before .before .before .before .well-formed in
+    let if1 = c .before .before .before .before .before .before .before .before .if1 in
+    let well-formed2 = c .before .before .before .before .before .before .before .well-formed2 in
+    let if2 = c .before .before .before .before .before .before .if2 in
+    let pair-count = c .before .before .before .pair-count in
+    let args = c .before .before .before .before .before .before .before .before .before .before .before .before .before .before .before
+    .args in
+    scratch-short (sym (well-formed .ensures) ∙ not-false _ (if1 .left)) (sym (well-formed2 .ensures) ∙ not-false _ (if2 .left))
+    (omega (arith, c .before .before .if3 .left, pair-count .ensures)) (omega (arith, c .before .if4 .left, pair-count .ensures))
+    (omega (arith, c .if5 .taken, twice-scratch (args .new) (args .old) (pair-count .ensures))) refl
 
 slice-relend-prefix-decide : tie.Need-slice-relend-prefix-decide
 slice-relend-prefix-decide c = search needs
@@ -70,7 +108,24 @@ slice-aggregate-decide-3 c = sym (part-long _ (c .before .before .before .if5 .l
 
 decide-requires : tie.Need-decide-requires
 decide-requires c κs =
-    ((sym (c .before .before .before .before .before .before .before .before .before .before .before .before .well-formed .ensures) ∙ not-false _ (c .before .before .before .before .before .before .before .before .before .before .before .if1 .left)), (sym (c .before .before .before .before .before .before .before .before .before .before .well-formed2 .ensures) ∙ not-false _ (c .before .before .before .before .before .before .before .before .before .if2 .left)), part-long _ (c .before .before .before .before .before .if3 .left) ∙ c .before .before .before .before .before .before .pair-count .ensures, part-long _ (c .before .before .before .before .if4 .left) ∙ c .before .before .before .before .before .before .pair-count .ensures, part-long _ (c .before .before .before .if5 .left) ∙ twice-scratch (c .before .before .before .before .before .before .before .before .before .before .before .before .before .before .before .before .before .before .args .new) (c .before .before .before .before .before .before .before .before .before .before .before .before .before .before .before .before .before .before .args .old) (c .before .before .before .before .before .before .pair-count .ensures))
+    let well-formed = c .before .before .before .before .before .before .before .before .before .before .before .before .well-formed in
+    let if1 = c .before .before .before .before .before .before .before .before .before .before .before .if1 in
+    let well-formed2 = c .before .before .before .before .before .before .before .before .before .before .well-formed2 in
+    let if2 = c .before .before .before .before .before .before .before .before .before .if2 in
+    let if3 = c .before .before .before .before .before .if3 in
+    let pair-count = c .before .before .before .before .before .before .pair-count in
+    let if4 = c .before .before .before .before .if4 in
+    let if5 = c .before .before .before .if5 in
+    let args = c .before .before .before .before .before .before .before .before .before .before .before .before .before .before .before
+    .before .before .before .args in (
+      (sym (well-formed .ensures) ∙ not-false _ (if1 .left)),
+      (sym (well-formed2 .ensures) ∙ not-false _ (if2 .left)),
+      part-long _
+          (if3 .left) ∙ pair-count .ensures,
+      part-long _ (if4 .left) ∙ pair-count .ensures,
+      part-long _ (if5 .left) ∙ twice-scratch
+          (args .new) (args .old) (pair-count .ensures),
+    )
 
 same-length : tie.Need-same-length
 same-length c = search needs
@@ -83,7 +138,28 @@ same-length-3 c = search needs
 
 returns-6 : tie.Need-returns-6
 returns-6 c =
-    replaces-whole (none-applies (sym (c .before .before .before .before .before .before .before .before .before .before .before .before .before .before .before .before .before .before .before .well-formed .ensures) ∙ not-false _ (c .before .before .before .before .before .before .before .before .before .before .before .before .before .before .before .before .before .before .if1 .left)) (sym (c .before .before .before .before .before .before .before .before .before .before .before .before .before .before .before .before .before .well-formed2 .ensures) ∙ not-false _ (c .before .before .before .before .before .before .before .before .before .before .before .before .before .before .before .before .if2 .left)) (c .before .before .before .before .before .before .before .before .before .before .before .before .before .pair-count .ensures) (c .before .before .before .before .before .before .before .before .before .before .before .before .if3 .left) (c .before .before .before .before .before .before .before .before .before .before .before .if4 .left) (c .before .before .before .before .before .before .before .before .before .before .if5 .left)) (c .before .before .before .before .before .before .before .before .before .before .before .before .before .pair-count .ensures) (c .before .before .before .before .before .before .decide .kept .1 .1 .1 .1 .0 ∙ part-long _ (c .before .before .before .before .before .before .before .before .before .before .before .before .if3 .left)) (c .before .before .before .before .before .before .decide .kept .1 .1 .1 .1 .1 .0 ∙ part-long _ (c .before .before .before .before .before .before .before .before .before .before .before .if4 .left)) (c .before .before .before .before .before .before .decide .ensures)
+    let well-formed = c .before .before .before .before .before .before .before .before .before .before .before .before .before .before
+    .before .before .before .before .before .well-formed in
+    let if1 = c .before .before .before .before .before .before .before .before .before .before .before .before .before .before .before
+    .before .before .before .if1 in
+    let well-formed2 = c .before .before .before .before .before .before .before .before .before .before .before .before .before .before
+    .before .before .before .well-formed2 in
+    let if2 = c .before .before .before .before .before .before .before .before .before .before .before .before .before .before .before
+    .before .if2 in
+    let pair-count = c .before .before .before .before .before .before .before .before .before .before .before .before .before
+    .pair-count in
+    let if3 = c .before .before .before .before .before .before .before .before .before .before .before .before .if3 in
+    let if4 = c .before .before .before .before .before .before .before .before .before .before .before .if4 in
+    let if5 = c .before .before .before .before .before .before .before .before .before .before .if5 in
+    let decide = c .before .before .before .before .before .before .decide in
+    replaces-whole (none-applies (sym (well-formed .ensures) ∙ not-false _ (if1 .left))
+    (sym (well-formed2 .ensures) ∙ not-false _ (if2 .left)) (pair-count .ensures) (if3 .left) (if4 .left) (if5 .left))
+    (pair-count .ensures) (decide .kept .1 .1 .1 .1 .0 ∙ part-long _ (if3 .left))
+    (decide .kept .1 .1 .1 .1 .1 .0 ∙ part-long _ (if4 .left)) (decide .ensures)
 
 pub may-replace-spec : {M : Type 1} → statement M
-may-replace-spec = tie.close (tie.spec well-formed-requires returns well-formed-requires-2 returns-2 cast-n cast-m pair-count-requires returns-3 returns-4 add-twice returns-5 slice-relend-prefix-decide slice-aggregate-decide slice-relend-prefix-decide-2 slice-aggregate-decide-2 slice-relend-prefix-decide-3 slice-aggregate-decide-3 decide-requires same-length same-length-2 same-length-3 returns-6)
+may-replace-spec =
+    tie.close
+    (tie.spec well-formed-requires returns well-formed-requires-2 returns-2 cast-n cast-m pair-count-requires returns-3 returns-4
+    add-twice returns-5 slice-relend-prefix-decide slice-aggregate-decide slice-relend-prefix-decide-2 slice-aggregate-decide-2
+    slice-relend-prefix-decide-3 slice-aggregate-decide-3 decide-requires same-length same-length-2 same-length-3 returns-6)

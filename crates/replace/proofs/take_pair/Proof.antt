@@ -10,18 +10,27 @@ use Rattle.replace.proofs.take_pair.Tie as tie
 
 compare-requires : tie.Need-compare-requires
 compare-requires c κs =
-    (formed-listed (c .before .before .before .before .pre .1 .left), formed-listed (c .before .before .before .before .pre .1 .right))
+    let pre = c .before .before .before .before .pre in
+    (formed-listed (pre .1 .left), formed-listed (pre .1 .right))
 
 is-nothing-requires : tie.Need-is-nothing-requires
 is-nothing-requires c κs = search needs
 
 returns : tie.Need-returns
 returns c =
-    takes-wrong (c .before .before .compare .ensures) refl (fits-not _ (sym (c .before .is-nothing .ensures) ∙ not-true _ (c .if1 .taken))) refl
+    let compare = c .before .before .compare in
+    takes-wrong (compare .ensures) refl (fits-not _ (sym (c .before .is-nothing .ensures) ∙ not-true _ (c .if1 .taken))) refl
 
 expand-requires : tie.Need-expand-requires
 expand-requires c κs =
-    (c .before .before .before .before .before .before .before .before .before .before .pre .0, pair-leading (c .before .before .before .before .before .compare .ensures) (c .before .before .before .before .before .before .before .before .before .before .pre .0 .turn-below) (c .before .before .before .before .before .before .before .before .before .before .pre .1) (fits-nothing _ (sym (c .before .before .before .before .is-nothing .ensures) ∙ not-false _ (c .before .before .before .if1 .left))))
+    let pre = c .before .before .before .before .before .before .before .before .before .before .pre in
+    let compare = c .before .before .before .before .before .compare in
+    let is-nothing = c .before .before .before .before .is-nothing in
+    let if1 = c .before .before .before .if1 in (
+      pre .0,
+      pair-leading (compare .ensures) (pre .0 .turn-below) (pre .1)
+          (fits-nothing _ (sym (is-nothing .ensures) ∙ not-false _ (if1 .left))),
+    )
 
 same-length : tie.Need-same-length
 same-length c = search needs
@@ -31,7 +40,11 @@ same-length-2 c = search needs
 
 returns-2 : tie.Need-returns-2
 returns-2 c =
-    takes-on (c .before .before .before .before .before .before .before .before .before .before .compare .ensures) refl (fits-nothing _ (sym (c .before .before .before .before .before .before .before .before .before .is-nothing .ensures) ∙ not-false _ (c .before .before .before .before .before .before .before .before .if1 .left))) (c .before .before .before .before .expand .ensures)
+    let compare = c .before .before .before .before .before .before .before .before .before .before .compare in
+    let is-nothing = c .before .before .before .before .before .before .before .before .before .is-nothing in
+    let if1 = c .before .before .before .before .before .before .before .before .if1 in
+    let expand = c .before .before .before .before .expand in
+    takes-on (compare .ensures) refl (fits-nothing _ (sym (is-nothing .ensures) ∙ not-false _ (if1 .left))) (expand .ensures)
 
 pub take-pair-spec : {M : Type 1} → statement M
 take-pair-spec = tie.close (tie.spec compare-requires is-nothing-requires returns expand-requires same-length same-length-2 returns-2)

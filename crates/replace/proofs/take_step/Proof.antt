@@ -17,15 +17,28 @@ enum-known-onward c = search needs
 
 place-after-requires : tie.Need-place-after-requires
 place-after-requires c κs =
-    step-landing (c .before .before .before .step .ensures) (c .before .onward .given .1) (c .before .before .before .before .before .before .pre .0) (c .before .before .before .before .before .before .pre .1)
+    let step = c .before .before .before .step in
+    let pre = c .before .before .before .before .before .before .pre in
+    step-landing (step .ensures) (c .before .onward .given .1) (pre .0) (pre .1)
 
 pair-count-requires : tie.Need-pair-count-requires
 pair-count-requires c κs =
-    (c .before .before .before .before .before .before .before .pre .0 .new-few, c .before .before .before .before .before .before .before .pre .0 .old-few)
+    let pre = c .before .before .before .before .before .before .before .pre in
+    (pre .0 .new-few, pre .0 .old-few)
 
 visit-requires : tie.Need-visit-requires
 visit-requires c κs =
-    (rw (c .before .before .pair-count .ensures) (c .before .before .before .before .before .before .before .before .before .before .pre .0 .queue), c .before .before .before .before .before .before .before .before .before .before .pre .0 .entry, omega (arith, c .before .before .before .before .before .before .before .before .before .before .pre .2), rw (c .before .before .pair-count .ensures) (lands-below (step-landing (c .before .before .before .before .before .before .before .step .ensures) (c .before .before .before .before .before .onward .given .1) (c .before .before .before .before .before .before .before .before .before .before .pre .0) (c .before .before .before .before .before .before .before .before .before .before .pre .1)) (c .before .before .before .place-after .ensures)))
+    let pair-count = c .before .before .pair-count in
+    let pre = c .before .before .before .before .before .before .before .before .before .before .pre in
+    let step = c .before .before .before .before .before .before .before .step in
+    let onward = c .before .before .before .before .before .onward in
+    let place-after = c .before .before .before .place-after in (
+      rw (pair-count .ensures) (pre .0 .queue),
+      pre .0 .entry,
+      omega (arith, pre .2),
+      rw (pair-count .ensures)
+          (lands-below (step-landing (step .ensures) (onward .given .1) (pre .0) (pre .1)) (place-after .ensures)),
+    )
 
 returns : tie.Need-returns
 returns c = step-nowhere (c .before .before .step .ensures) (c .enum-told .given .1)
@@ -38,7 +51,15 @@ same-length-2 c = search needs
 
 returns-2 : tie.Need-returns-2
 returns-2 c =
-    step-onto (c .before .before .before .before .before .before .before .before .before .before .before .before .step .ensures) (c .before .before .before .before .before .before .before .before .before .before .onward .given .1) (c .before .before .before .before .before .before .before .before .place-after .ensures) (rw (← c .before .before .before .before .before .before .before .pair-count .ensures) (c .before .before .before .before .visit .ensures))
+    let step = c .before .before .before .before .before .before .before .before .before .before .before .before .step in
+    let onward = c .before .before .before .before .before .before .before .before .before .before .onward in
+    let place-after = c .before .before .before .before .before .before .before .before .place-after in
+    let pair-count = c .before .before .before .before .before .before .before .pair-count in
+    let visit = c .before .before .before .before .visit in
+    step-onto (step .ensures) (onward .given .1) (place-after .ensures) (rw (← pair-count .ensures) (visit .ensures))
 
 pub take-step-spec : {M : Type 1} → statement M
-take-step-spec = tie.close (tie.spec step-requires enum-told enum-known-onward place-after-requires pair-count-requires visit-requires returns same-length same-length-2 returns-2)
+take-step-spec =
+    tie.close
+    (tie.spec step-requires enum-told enum-known-onward place-after-requires pair-count-requires visit-requires returns same-length
+    same-length-2 returns-2)

@@ -28,7 +28,15 @@ same-length-3 c = search needs
 
 returns : tie.Need-returns
 returns c =
-    run-left (c .before .before .before .before .before .before .before .before .before .before .before .before .before .before .depth .ensures) (c .before .before .before .before .before .before .before .before .before .before .write-path .ensures) (c .before .before .before .before .before .before .clear-marks .ensures) (c .before .before .clear-numbers .ensures)
+    let depth = c .before .before .before .before .before .before .before .before .before .before .before .before .before .before .depth
+    in
+    let write-path = c .before .before .before .before .before .before .before .before .before .before .write-path in
+    let clear-marks = c .before .before .before .before .before .before .clear-marks in
+    let clear-numbers = c .before .before .clear-numbers in
+    run-left (depth .ensures) (write-path .ensures) (clear-marks .ensures) (clear-numbers .ensures)
 
 pub leave-run-spec : {M : Type 1} → statement M
-leave-run-spec = tie.close (tie.spec depth-requires write-path-requires clear-marks-requires clear-numbers-requires same-length same-length-2 same-length-3 returns)
+leave-run-spec =
+    tie.close
+    (tie.spec depth-requires write-path-requires clear-marks-requires clear-numbers-requires same-length same-length-2 same-length-3
+    returns)

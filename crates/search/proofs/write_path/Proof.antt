@@ -37,17 +37,22 @@ step-into-requires c κs =
 
 write-step-requires : tie.Need-write-step-requires Inv-loop μ-loop
 write-step-requires c κs =
-    omega (arith, c .before .before .before .before .before .loop .inv .fits, c .before .before .before .before .loop-test .taken)
+    let loop = c .before .before .before .before .before .loop in
+    let loop-test = c .before .before .before .before .loop-test in
+    omega (arith, loop .inv .fits, loop-test .taken)
 
 add-wide : tie.Need-add-wide Inv-loop μ-loop
 add-wide c = let fits = entry-fits (c .before .before .before .before .before .before .before .before .loop .inv .here) in search needs
 
 mul-wide-2 : tie.Need-mul-wide-2 Inv-loop μ-loop
-mul-wide-2 c = let fits = entry-fits (c .before .before .before .before .before .before .before .before .loop .inv .here) in search needs
+mul-wide-2 c =
+    let loop = c .before .before .before .before .before .before .before .before .loop in
+    let fits = entry-fits (loop .inv .here) in search needs
 
 shared-slice-read-wide-2 : tie.Need-shared-slice-read-wide-2 Inv-loop μ-loop
 shared-slice-read-wide-2 c =
-    let fits = entry-fits (c .before .before .before .before .before .before .before .before .before .loop .inv .here) in search needs
+    let loop = c .before .before .before .before .before .before .before .before .before .loop in
+    let fits = entry-fits (loop .inv .here) in search needs
 
 wide-requires-2 : tie.Need-wide-requires-2 Inv-loop μ-loop
 wide-requires-2 c κs = search needs
@@ -57,8 +62,12 @@ loop-less c = search needs
 
 loop-again : tie.Need-loop-again Inv-loop μ-loop
 loop-again c =
-    rw (c .before .before .before .before .write-step .ensures)
-    (write-turn (c .before .before .before .before .before .before .before .before .before .before .loop .inv) (omega arith) (c .before .before .before .before .before .before .step-into .ensures ∙ rw (c .before .before .before .before .before .before .before .wide .ensures)) (c .wide2 .ensures))
+    let write-step = c .before .before .before .before .write-step in
+    let loop = c .before .before .before .before .before .before .before .before .before .before .loop in
+    let step-into = c .before .before .before .before .before .before .step-into in
+    let wide = c .before .before .before .before .before .before .before .wide in
+    rw (write-step .ensures)
+    (write-turn (loop .inv) (omega arith) (step-into .ensures ∙ rw (wide .ensures)) (c .wide2 .ensures))
 
 same-length : tie.Need-same-length Inv-loop μ-loop
 same-length c = search needs
@@ -67,4 +76,7 @@ returns : tie.Need-returns Inv-loop μ-loop
 returns c = write-end (c .before .loop .inv) (omega arith)
 
 pub write-path-spec : {M : Type 1} → statement M
-write-path-spec = tie.close (tie.spec Inv-loop μ-loop loop-holds sub-j mul-wide shared-slice-read-wide wide-requires step-into-requires write-step-requires add-wide mul-wide-2 shared-slice-read-wide-2 wide-requires-2 loop-less loop-again same-length returns)
+write-path-spec =
+    tie.close
+    (tie.spec Inv-loop μ-loop loop-holds sub-j mul-wide shared-slice-read-wide wide-requires step-into-requires write-step-requires
+    add-wide mul-wide-2 shared-slice-read-wide-2 wide-requires-2 loop-less loop-again same-length returns)

@@ -37,4 +37,6 @@ returns-2 : tie.Need-returns-2 Inv-loop μ-loop
 returns-2 c = search needs
 
 pub numbers-are-spec : {M : Type 1} → statement M
-numbers-are-spec = tie.close (tie.spec Inv-loop μ-loop loop-holds mul-if2 shared-slice-read-if2 returns add-i loop-less loop-again returns-2)
+numbers-are-spec =
+    tie.close
+    (tie.spec Inv-loop μ-loop loop-holds mul-if2 shared-slice-read-if2 returns add-i loop-less loop-again returns-2)

@@ -50,4 +50,7 @@ returns : tie.Need-returns Inv-loop μ-loop
 returns c = search needs
 
 pub print-marks-spec : {M : Type 1} → statement M
-print-marks-spec = tie.close (tie.spec Inv-loop μ-loop slice-aggregate-write-all write-all-requires loop-holds shared-slice-read-if2 number-requires shared-slice-read-if3 shared-slice-read-mark mark-requires add-i loop-less loop-again returns)
+print-marks-spec =
+    tie.close
+    (tie.spec Inv-loop μ-loop slice-aggregate-write-all write-all-requires loop-holds shared-slice-read-if2 number-requires
+    shared-slice-read-if3 shared-slice-read-mark mark-requires add-i loop-less loop-again returns)

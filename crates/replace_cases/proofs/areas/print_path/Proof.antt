@@ -44,4 +44,7 @@ returns : tie.Need-returns Inv-loop μ-loop
 returns c = search needs
 
 pub print-path-spec : {M : Type 1} → statement M
-print-path-spec = tie.close (tie.spec Inv-loop μ-loop slice-aggregate-write-all write-all-requires loop-holds mul-step shared-slice-read-step step-requires add-i loop-less loop-again returns)
+print-path-spec =
+    tie.close
+    (tie.spec Inv-loop μ-loop slice-aggregate-write-all write-all-requires loop-holds mul-step shared-slice-read-step step-requires
+    add-i loop-less loop-again returns)

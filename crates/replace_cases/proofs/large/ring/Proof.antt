@@ -48,4 +48,7 @@ returns : tie.Need-returns Inv-loop μ-loop
 returns c = search needs
 
 pub ring-spec : {M : Type 1} → statement M
-ring-spec = tie.close (tie.spec Inv-loop μ-loop message-requires loop-holds add-if1 add-message message-requires-2 cast-nodes mul-nodes array-set-from-nodes add-i loop-less loop-again returns)
+ring-spec =
+    tie.close
+    (tie.spec Inv-loop μ-loop message-requires loop-holds add-if1 add-message message-requires-2 cast-nodes mul-nodes
+    array-set-from-nodes add-i loop-less loop-again returns)

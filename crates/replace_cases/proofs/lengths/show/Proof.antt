@@ -51,21 +51,27 @@ array-borrow-prefix-m c = search needs
 
 slice-aggregate-show : tie.Need-slice-aggregate-show
 slice-aggregate-show c =
-    sym (part-long _ (omega (arith, c .before .before .before .before .before .before .before .before .before .before .before .before .before .before .before .before .before .before .before .if1 .left)))
+    let if1 = c .before .before .before .before .before .before .before .before .before .before .before .before .before .before .before
+    .before .before .before .before .if1 in
+    sym (part-long _ (omega (arith, if1 .left)))
 
 array-borrow-prefix-p : tie.Need-array-borrow-prefix-p
 array-borrow-prefix-p c = search needs
 
 slice-aggregate-show-2 : tie.Need-slice-aggregate-show-2
 slice-aggregate-show-2 c =
-    sym (part-long _ (omega (arith, c .before .before .before .before .before .before .before .before .before .before .before .before .before .before .before .before .before .before .before .if2 .left)))
+    let if2 = c .before .before .before .before .before .before .before .before .before .before .before .before .before .before .before
+    .before .before .before .before .if2 in
+    sym (part-long _ (omega (arith, if2 .left)))
 
 array-borrow-prefix-s : tie.Need-array-borrow-prefix-s
 array-borrow-prefix-s c = search needs
 
 slice-aggregate-show-3 : tie.Need-slice-aggregate-show-3
 slice-aggregate-show-3 c =
-    sym (part-long _ (omega (arith, c .before .before .before .before .before .before .before .before .before .before .before .before .before .before .before .before .before .before .before .if3 .left)))
+    let if3 = c .before .before .before .before .before .before .before .before .before .before .before .before .before .before .before
+    .before .before .before .before .if3 in
+    sym (part-long _ (omega (arith, if3 .left)))
 
 show-requires : tie.Need-show-requires
 show-requires c κs = search needs
@@ -74,4 +80,9 @@ returns-4 : tie.Need-returns-4
 returns-4 c = search needs
 
 pub show-spec : {M : Type 1} → statement M
-show-spec = tie.close (tie.spec returns returns-2 returns-3 slice-aggregate-write-all write-all-requires number-requires number-requires-2 number-requires-3 slice-aggregate-title slice-aggregate-title-2 title-requires read-requires read-requires-2 array-borrow-prefix-m slice-aggregate-show array-borrow-prefix-p slice-aggregate-show-2 array-borrow-prefix-s slice-aggregate-show-3 show-requires returns-4)
+show-spec =
+    tie.close
+    (tie.spec returns returns-2 returns-3 slice-aggregate-write-all write-all-requires number-requires number-requires-2
+    number-requires-3 slice-aggregate-title slice-aggregate-title-2 title-requires read-requires read-requires-2
+    array-borrow-prefix-m slice-aggregate-show array-borrow-prefix-p slice-aggregate-show-2 array-borrow-prefix-s
+    slice-aggregate-show-3 show-requires returns-4)
