@@ -16,10 +16,10 @@ ghost use mathlib.Core.List.{[]};
 ghost use mathlib.Core.Path.{_≡_};
 ghost use Prim.Native.Nat.{_<_};
 ghost use lib.Dec.{eqb, ltb};
-ghost use Rattle.rules.specs.Tables.{is-choice, label-count, node-at, spelling-at};
+ghost use Rattle.rules.specs.Tables.{is-choice, label-count, spelling-at};
 ghost use Rattle.rules.specs.Pairs.{kind-number};
 ghost use Rattle.table.specs.declared.answers.Verdict.the-variants.{No};
-ghost use Rattle.rules.specs.Replies.{of-chooser, found-fits, chooser, chooser-names, missing-label};
+ghost use Rattle.rules.specs.Replies.{of-chooser, found-fits, chooser, missing-label};
 
 // "23: a chosen label is missing"
 const LABEL_MISSING: usize = 23;

@@ -19,7 +19,6 @@ use words::same_bytes;
 ghost use mathlib.Core.Bool.{true, false, not};
 ghost use mathlib.Core.Path.{_≡_};
 ghost use Prim.Native.Nat.{_<_, _≤_};
-ghost use lib.Dec.{eqb};
 ghost use Rattle.rules.specs.Basics.{first, same};
 ghost use Rattle.rules.specs.Numbers.{items-most, labels-most};
 ghost use Rattle.rules.specs.Tables.{item-count, item-at, label-count};

@@ -2,14 +2,14 @@
 -- Assumes nothing.
 use mathlib.Core.Bool.{true}
 use mathlib.Core.List.{List, [], _∷_, _++_, append-assoc, append-nil}
-use mathlib.Core.Path.{_≡_, refl, sym, ap, ap₂, _∙_}
-use Prim.Native.Nat.{ℕ, zero, suc, _+_, _<_, _≤_}
+use mathlib.Core.Path.{_≡_, refl, sym, ap, _∙_}
+use Prim.Native.Nat.{ℕ, zero, suc, _+_, _≤_}
 use native.Mathlib.Nat.{min-eq-left}
 use native.Mathlib.Omega.{arith}
-use lib.ListN.{length, getD, take, drop, replicate, length-append, length-drop, length-take, length-replicate, drop-of-length-le, take-append-drop, List·getD-append}
+use lib.ListN.{length, take, drop, replicate, length-append, length-drop, length-take, drop-of-length-le, take-append-drop, List·getD-append}
 use lib.Seq.{take-at, drop-at, take-all}
 use Rattle.rules.specs.Formed.{well-formed}
-use Rattle.rules.specs.Replies.{Areas, NoRefusal, SaysYes, SaysNo, Replaces, says-yes, says-no, new-not-formed, old-not-formed, marks-short, path-short, scratch-short, pair-count, scratch-size, cleared, mark-place, count-marks}
+use Rattle.rules.specs.Replies.{Areas, NoRefusal, SaysYes, SaysNo, Replaces, says-yes, says-no, pair-count, scratch-size, cleared, mark-place, count-marks}
 use Rattle.rules.proofs.LineAgreement.{never-refused}
 use Rattle.rules.proofs.Places.{place-below, scratch-twice}
 use Rattle.rules.proofs.Steps.{Within}

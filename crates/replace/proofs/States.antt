@@ -1,6 +1,6 @@
 -- How the search stands, entry by entry: each step of an entry is a move of the search (`Searching` in rules), and so is the entry's end.
 -- Assumes nothing.
-use mathlib.Core.List.{List, []}
+use mathlib.Core.List.{List}
 use mathlib.Core.Option.{Option, none, some, Option·some-injective}
 use mathlib.Core.Path.{_≡_, refl, sym, ap, subst, _∙_}
 use Prim.Native.Nat.{ℕ, zero, suc, _+_, _<_, _≤_}
@@ -13,12 +13,13 @@ use Rattle.rules.specs.Numbers.{labels-most}
 use Rattle.rules.specs.Tables.{node-at}
 use Rattle.rules.specs.Pairs.{Pair, Step, starts, mismatch-at, step-at, left-in, right-in}
 use Rattle.rules.specs.Replies.{pair-count, mark-place}
+use Rattle.rules.proofs.Basics.{none-some}
 use Rattle.rules.proofs.Formed.{WellFormed}
 use Rattle.rules.proofs.Places.{pair-at, place-below, pair-at-place, pair-at-within, pairs-few}
 use Rattle.rules.proofs.Runs.{starts-within}
 use Rattle.rules.proofs.Searching.{Searched, search-begins, search-skips, search-passes, search-expanded, search-pushes}
 use Rattle.rules.proofs.Steps.{Within, left-formed, right-formed, step-within, step-numbered}
-use Rattle.search.specs.Queue.{Kept, Queue, begun, visited, run-at}
+use Rattle.search.specs.Queue.{Kept, Queue, begun, visited}
 use Rattle.search.proofs.Queues.{queue-begun, queue-fits, queue-visited, visited-met, visited-tail, visited-entry, entry-kept}
 use Rattle.search.proofs.Runs.{run-start, run-kept, run-new}
 use Rattle.table.specs.declared.Table.{Table}
@@ -26,11 +27,7 @@ use Rattle.table.specs.declared.answers.Mismatch.{Mismatch}
 use Rattle.table.specs.declared.answers.Mismatch.the-variants.{Nothing}
 use Rattle.replace.specs.State.{pair-of, run-of, State, EndedAt}
 use Rattle.replace.specs.Taking.{place-of, stepped, expanded, Ready, Formed, Takes}
-use Rattle.replace.specs.declared.Ended.{Ended}
 use Rattle.replace.specs.declared.Taken.{Taken}
-
-none-some : {A : Type 0} {a : A} → none ≡ some a → ⊥
-none-some e = let z : _≡_ {A = ℕ} 0 1 = cc in omega arith
 
 module _ (new : Table) (new-names : List ℕ) (old : Table) (old-names : List ℕ) (new-formed : WellFormed new new-names) (old-formed : WellFormed old old-names) where
   abbrev N : ℕ

@@ -24,7 +24,7 @@ ghost use lib.ListN.{length};
 ghost use Rattle.rules.specs.Numbers.{table-nodes-most, labels-most};
 ghost use Rattle.rules.specs.Formed.{well-formed};
 ghost use Rattle.rules.specs.Pairs.{turns-most, turn-after, left-in, right-in, reason, detail};
-ghost use Rattle.rules.specs.Replies.{Areas, Replaces, pair-count, scratch-size};
+ghost use Rattle.rules.specs.Replies.{Replaces, pair-count, scratch-size};
 ghost use Rattle.rules.specs.computed.Verdict.{fits};
 ghost use Rattle.rules.proofs.Formed.{WellFormed};
 ghost use Rattle.rules.proofs.Places.{place};

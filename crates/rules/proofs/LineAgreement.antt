@@ -12,7 +12,6 @@ use Rattle.rules.specs.Line.{Prints, first-refused, second-refused, yes,
 use Rattle.rules.specs.Replies.{Reads, accepts, refuses, Areas, NoRefusal, Replaces, new-not-formed, old-not-formed, marks-short, path-short, scratch-short, made, pair-count, scratch-size}
 use Rattle.rules.specs.computed.Line.{areas-for, verdict-line, second-line, first-line, printed}
 use Rattle.rules.specs.computed.Reading.{reading}
-use Rattle.rules.specs.computed.Verdict.{verdict}
 use Rattle.rules.proofs.Agreement.{reads-reading}
 use Rattle.rules.proofs.OneLine.{one-line}
 use Rattle.rules.proofs.ReadTables.{read-formed}

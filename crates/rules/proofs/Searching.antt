@@ -13,7 +13,7 @@ use native.Mathlib.Omega.{arith}
 use borrow.Author.Count.{below-none, below-more}
 use Rattle.rules.specs.Basics.{some-below}
 use Rattle.rules.specs.Pairs.{Pair, Step, starts, mismatch-at, IsMismatch}
-use Rattle.rules.specs.Runs.{Leads, Run, Before}
+use Rattle.rules.specs.Runs.{Run, Before}
 use Rattle.rules.specs.Replace.{Smallest}
 use Rattle.rules.specs.computed.Verdict.{same-pair}
 use Rattle.rules.proofs.Basics.{some-below-true, some-below-at}

@@ -12,9 +12,9 @@ use lib.Dec.{eqb, ltb}
 use borrow.Author.Tests.{eqb-true, leb-true, leb-false, ltb-true}
 use Rattle.rules.specs.Basics.{first}
 use Rattle.rules.specs.Numbers.{labels-most}
-use Rattle.rules.specs.Tables.{node-at, item-count, item-at, label-count, label-at, spelling-at, continuation}
+use Rattle.rules.specs.Tables.{item-count, item-at, label-count, label-at, spelling-at, continuation}
 use Rattle.rules.specs.Pairs.{Pair, Onward, Step, reason, or-else, unless, kinds-differ, counts-differ, item-differs, position, lacks, label-lacking, by-chooser, mismatch-of, mismatch-at, onto, nowhere, exchanged, continuation-step, into-item, message-step, choice-step, step-by, step-of, step-at, landed, left-in, right-in, turn-after, turns-most}
-use Rattle.rules.proofs.Basics.{first-found}
+use Rattle.rules.proofs.Basics.{first-found, none-some}
 use Rattle.rules.proofs.Formed.{FormedMessage, FormedChoice, FormedNode, WellFormed}
 use Rattle.table.specs.declared.Kind.{Kind}
 use Rattle.table.specs.declared.Kind.the-variants.{End, Receive, Send, Branch, Choose}
@@ -152,7 +152,7 @@ module _ {n m : ℕ} {x : Node} {xs : List ℕ} {y : Node} {ys : List ℕ} where
 lands-inside :
     (n m s u : ℕ) → u < turns-most → (o : Onward) → Lands (left-in u n m) (right-in u n m) s o → (q : Pair) → landed u o ≡ some q
     → Inside n m q × (s < labels-most)
-lands-inside n m s u l nowhere h q e = let z : _≡_ {A = ℕ} 0 1 = cc in absurd (omega arith)
+lands-inside n m s u l nowhere h q e = absurd (none-some e)
 lands-inside n m s zero l (onto a b t) h q e = (
   subst (Inside n m) (Option·some-injective _ q e)
       (record { turn-below = turn-after-below t zero l; new-below = h .0; old-below = h .1 }),

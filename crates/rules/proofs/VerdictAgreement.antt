@@ -1,16 +1,16 @@
 -- The computed verdict is the declared one: the twin's reply is one that `Replaces` allows, for every input. So there is one.
 -- The search's invariant (Searching) is carried through the twin's moves; there are no more entries than pairs (Entries), so it ends.
 -- Assumes nothing.
-use mathlib.Core.Bool.{Bool, true, false, false≢true}
+use mathlib.Core.Bool.{Bool, true, false}
 use mathlib.Core.List.{List, [], _∷_, _++_}
 use mathlib.Core.Logic.{_↔_}
 use mathlib.Core.Option.{Option, none, some, Option·some-injective}
 use mathlib.Core.Path.{_≡_, refl, sym, ap, subst, _∙_}
-use Prim.Native.Nat.{ℕ, zero, suc, _+_, _<_, _≤_}
+use Prim.Native.Nat.{ℕ, zero, suc, _+_, _<_}
 use native.Mathlib.Numerals.{add-one}
 use native.Mathlib.Omega.{arith}
 use lib.Dec.{ltb}
-use lib.ListN.{length, getD, take, drop, length-append, length-drop, List·getD-append}
+use lib.ListN.{length, getD, drop, length-append, length-drop, List·getD-append}
 use lib.Seq.{getD-append-seam, take-at, drop-at}
 use borrow.Author.Tests.{ltb-true, ltb-false}
 use Rattle.rules.specs.Numbers.{labels-most}
@@ -18,8 +18,9 @@ use Rattle.rules.specs.Formed.{well-formed}
 use Rattle.rules.specs.Refusals.{not-well-formed, area-too-short}
 use Rattle.rules.specs.Pairs.{Pair, Step, starts, mismatch-at, step-at, IsMismatch}
 use Rattle.rules.specs.Runs.{Run, Before}
-use Rattle.rules.specs.Replies.{Areas, NoRefusal, SaysYes, SaysNo, Replaces, new-not-formed, old-not-formed, marks-short, path-short, scratch-short, says-yes, says-no, pair-count, scratch-size, mark-place, mark, count-marks}
+use Rattle.rules.specs.Replies.{Areas, NoRefusal, Replaces, new-not-formed, old-not-formed, marks-short, path-short, scratch-short, says-yes, says-no, pair-count, scratch-size, mark-place, mark, count-marks}
 use Rattle.rules.specs.computed.Verdict.{Entry, Outcome, all-fit, mismatched, unfinished, no-entry, entry-behind, reached, fits, visit, expand, explore, outcome, marks-of, Reply, refuse, settle, verdict}
+use Rattle.rules.proofs.Basics.{none-some}
 use Rattle.rules.proofs.Entries.{pair-of, run-of, reached-where, marked-entered, unreached-unmarked, marks-within, marks-more, marks-at, marks-length, one-mark}
 use Rattle.rules.proofs.Formed.{WellFormed, formed}
 use Rattle.rules.proofs.OneVerdict.{one-verdict}
@@ -31,9 +32,6 @@ use Rattle.rules.proofs.Steps.{Within, step-within, step-numbered}
 use Rattle.table.specs.declared.Table.{Table}
 use Rattle.table.specs.declared.answers.Mismatch.the-variants as mismatch
 use Rattle.table.specs.declared.answers.Verdict.{Verdict}
-
-none-some : {A : Type 0} {a : A} → none ≡ some a → ⊥
-none-some e = let z : _≡_ {A = ℕ} 0 1 = cc in omega arith
 
 module _ (new : Table) (new-names : List ℕ) (old : Table) (old-names : List ℕ) (new-formed : WellFormed new new-names) (old-formed : WellFormed old old-names) where
   -- the search stands at entry h, of which the steps below k were taken

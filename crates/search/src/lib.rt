@@ -6,7 +6,7 @@ ghost use mathlib.Core.Path.{_≡_};
 ghost use mathlib.Core.List.{_++_, map};
 ghost use Prim.Native.Nat.{_+_, _-_, _≤_, _<_};
 ghost use lib.ListN.{length, getD, set, drop, replicate};
-ghost use Rattle.search.specs.Queue.{Kept, Queue, Entry, begun, visited, run-at, settled, RunLeft};
+ghost use Rattle.search.specs.Queue.{Queue, Entry, begun, visited, run-at, settled, RunLeft};
 
 pub fn wide(x: u16) -> usize
     ensures { λ r. ⌜ r ≡ x ⌝ }
