@@ -60,8 +60,15 @@ pub step-of-kind :
 unfolding step-of
 step-of-kind x xs y ys s e = sym (ap (λ (k : Kind). step-by k x xs y ys s) e)
 
--- the step of a choice, by what is found for the chooser: for the left node, or for the right one
+-- The step of a message: "Stepping into an item of `?` keeps left and right; into an item of `!` it turns them." And the step of a choice, by
+-- what is found for the chooser: for the left node, or for the right one.
 module _ {x y : Node} {places : List ℕ} {s : ℕ} where
+  pub step-received : {r : Onward} → x .kind ≡ Receive → onward r ≡ message-step x y false s → StepsAs x y places s r
+  step-received e f = record { is = λ xs ys P. f ∙ step-of-kind x xs y ys s e }
+
+  pub step-sent : {r : Onward} → x .kind ≡ Send → onward r ≡ message-step x y true s → StepsAs x y places s r
+  step-sent e f = record { is = λ xs ys P. f ∙ step-of-kind x xs y ys s e }
+
   pub step-left-chooses : {r : Onward} → x .kind ≡ Branch → ChoosesAs x y places s r → StepsAs x y places s r
   step-left-chooses e C =
       record {

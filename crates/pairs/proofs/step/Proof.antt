@@ -1,8 +1,7 @@
 -- `pairs::step` meets its contract, by the left node's kind.
 -- Assumes nothing.
 use borrow.Author.Needs.{needs}
-use mathlib.Core.Path.{_∙_}
-use Rattle.pairs.proofs.Steps.{step-of-kind, step-left-chooses, step-right-chooses}
+use Rattle.pairs.proofs.Steps.{step-of-kind, step-received, step-sent, step-left-chooses, step-right-chooses}
 use Rattle.pairs.proofs.step.Statement.{statement}
 use Rattle.pairs.proofs.step.Tie as tie
 
@@ -40,10 +39,10 @@ returns : tie.Need-returns
 returns c = record { is = λ xs ys P. step-of-kind _ xs _ ys _ (c .enum-told .given .1) }
 
 returns-2 : tie.Need-returns-2
-returns-2 c = record { is = λ xs ys P. c .message-step .ensures ∙ step-of-kind _ xs _ ys _ (c .before .enum-told2 .given .1) }
+returns-2 c = step-received (c .before .enum-told2 .given .1) (c .message-step .ensures)
 
 returns-3 : tie.Need-returns-3
-returns-3 c = record { is = λ xs ys P. c .message-step2 .ensures ∙ step-of-kind _ xs _ ys _ (c .before .enum-told3 .given .1) }
+returns-3 c = step-sent (c .before .enum-told3 .given .1) (c .message-step2 .ensures)
 
 returns-4 : tie.Need-returns-4
 returns-4 c =
