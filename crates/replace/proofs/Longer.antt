@@ -10,6 +10,7 @@ use lib.ListN.{length, take, drop, replicate, length-append, length-drop, length
 use lib.Seq.{take-at, drop-at, take-all}
 use Rattle.rules.specs.Formed.{well-formed}
 use Rattle.rules.specs.Replies.{Areas, NoRefusal, SaysYes, SaysNo, Replaces, says-yes, says-no, pair-count, scratch-size, cleared, mark-place, count-marks}
+use Rattle.rules.proofs.Formed.{formed}
 use Rattle.rules.proofs.LineAgreement.{never-refused}
 use Rattle.rules.proofs.Places.{place-below, scratch-twice}
 use Rattle.rules.proofs.Steps.{Within}
@@ -17,6 +18,8 @@ use Rattle.table.specs.declared.Table.{Table}
 use Rattle.table.specs.declared.answers.Found.{Found}
 use Rattle.table.specs.declared.answers.Verdict.{Verdict}
 use Rattle.table.specs.declared.answers.Verdict.the-variants as the
+use Rattle.replace.specs.State.{EndedAt, Concludable, Concludes}
+use Rattle.replace.specs.declared.Ended.{Ended}
 
 module _ {n : ℕ} (s : List ℕ) (l : n ≤ length s) where
   pub part-long : length (take n s) ≡ n
@@ -159,3 +162,65 @@ module _ {new : Table} {new-names : List ℕ} {old : Table} {old-names : List �
   replaces-whole {v} F e l m R =
       let d : size + size ≡ scratch-size new old = twice-scratch new old e in
       rw (d, e) (replaces-longer F (l ∙ e) (m ∙ e) v (rw (d, e) at R))
+
+-- a part that was written, taken again
+pub taken-long : {n : ℕ} (a b : List ℕ) → length a ≡ n → n ≡ length (take n (a ++ b))
+taken-long {n} a b l = sym (ap length (take-at a b n l) ∙ l)
+
+-- The search was over the first parts, and so was the reply to its end.
+module _ {new : Table} {new-names : List ℕ} {old : Table} {old-names : List ℕ} {size : ℕ} (marks path scratch : List ℕ) where
+  pub conclude-asks :
+      {n m : ℕ} {ended : Ended} {marks₁ scratch₁ : List ℕ} → well-formed new new-names ≡ true → well-formed old old-names ≡ true
+      → size ≡ pair-count new old → n ≡ new .count → m ≡ old .count → size ≤ length path → length marks₁ ≡ size
+      → length scratch₁ ≡ size + size → EndedAt new new-names old old-names marks₁ scratch₁ ended
+      → Concludable n m (take size (marks₁ ++ drop size marks)) (take size path)
+      (take (size + size) (scratch₁ ++ drop (size + size) scratch)) (ended .tail)
+  conclude-asks {marks₁} {scratch₁} f g e en em lp l₁ k₁ E =
+      let F = formed f in
+      let G = formed g in
+      record {
+        new-some = omega (arith, en, F .some-node);
+        old-some = omega (arith, em, G .some-node);
+        new-few = omega (arith, en, F .few-nodes);
+        old-few = omega (arith, em, G .few-nodes);
+        queue =
+            rw (
+              take-at marks₁ (drop size marks) size l₁,
+              take-at scratch₁ (drop (size + size) scratch) (size + size) k₁,
+              en,
+              em,
+            )
+            (E .state .queue);
+        path-long = rw (en, em) (omega (arith, part-long path lp, e));
+      }
+
+module _ {new : Table} {new-names : List ℕ} {old : Table} {old-names : List ℕ} {marks path scratch : List ℕ} {size : ℕ} where
+  pub replaces-concluded :
+      {n m : ℕ} {ended : Ended} {marks₁ scratch₁ marks₂ path₂ scratch₂ : List ℕ} {v : Verdict}
+      → NoRefusal new new-names old old-names (record { marks = marks; path = path; scratch = scratch }) → size ≡ pair-count new old
+      → n ≡ new .count → m ≡ old .count → size ≤ length marks → size ≤ length path → size + size ≤ length scratch → length marks₁ ≡ size
+      → length scratch₁ ≡ size + size → length marks₂ ≡ size → length path₂ ≡ size
+      → EndedAt new new-names old old-names marks₁ scratch₁ ended
+      → Concludes n m ended (take size (marks₁ ++ drop size marks)) (take size path)
+      (take (size + size) (scratch₁ ++ drop (size + size) scratch)) marks₂ path₂ scratch₂ v
+      → Replaces new new-names old old-names (record { marks = marks; path = path; scratch = scratch })
+      (record {
+        marks = marks₂ ++ drop size (marks₁ ++ drop size marks);
+        path = path₂ ++ drop size path;
+        scratch = scratch₂ ++ drop (size + size) (scratch₁ ++ drop (size + size) scratch);
+      })
+      v
+  replaces-concluded {n} {m} {ended} {marks₁} {scratch₁} {marks₂} {path₂} {scratch₂} {v} F e en em lm lp ls l₁ k₁ l₂ p₂ E C =
+      let parts : NoRefusal new new-names old old-names
+      (record { marks = take size marks; path = take size path; scratch = take (size + size) scratch }) =
+      none-applies (F .new-formed) (F .old-formed) e (omega (arith, part-long marks lm)) (omega (arith, part-long path lp))
+      (omega (arith, part-long scratch ls)) in
+      let ended-there : EndedAt new new-names old old-names (take size (marks₁ ++ drop size marks))
+      (take (size + size) (scratch₁ ++ drop (size + size) scratch)) ended =
+      rw (take-at marks₁ (drop size marks) size l₁, take-at scratch₁ (drop (size + size) scratch) (size + size) k₁) E in
+      let R =
+      C .replies new new-names old old-names
+      (record { marks = take size marks; path = take size path; scratch = take (size + size) scratch }) en em parts
+      (part-long marks lm ∙ e) (part-long scratch ls ∙ twice-scratch new old e) refl ended-there in
+      rw (drop-at marks₁ (drop size marks) size l₁, drop-at scratch₁ (drop (size + size) scratch) (size + size) k₁)
+      (replaces-whole F e l₂ p₂ R)

@@ -4,26 +4,25 @@ use mathlib.Core.Bool.{true}
 use mathlib.Core.List.{List, [], _++_, map, append-nil}
 use mathlib.Core.Path.{_≡_, refl, sym, ap, subst, _∙_}
 use mathlib.Mathlib.Data.Bool.Basic.{bool-eq-false}
-use Prim.Native.Nat.{ℕ, zero, suc, _<_, _≤_, _+_}
+use Prim.Native.Nat.{ℕ, zero, suc, _<_, _≤_, _+_, _*_}
 use native.Mathlib.Omega.{arith}
 use lib.ListN.{length, getD, drop, replicate, drop-of-length-le}
 use lib.Seq.{take-all}
 use Rattle.rules.specs.Formed.{well-formed}
-use Rattle.rules.specs.Pairs.{Pair, starts, mismatch-at, reason, detail}
+use Rattle.rules.specs.Pairs.{Pair, turns-most, starts, mismatch-at, reason, detail}
 use Rattle.rules.specs.Replies.{Areas, NoRefusal, Replaces, says-yes, says-no, pair-count, scratch-size, mark-place, mark, count-marks, cleared}
 use Rattle.rules.proofs.Formed.{formed}
 use Rattle.rules.proofs.Places.{pair-in, pair-at, place-below, pair-at-place, place-pair-at, pairs-few, scratch-twice}
 use Rattle.rules.proofs.Runs.{starts-within}
 use Rattle.rules.proofs.Searching.{Searched, entered, entered-at, entered-where, search-earliest, search-smallest}
 use Rattle.rules.proofs.Steps.{Within}
-use Rattle.search.specs.Queue.{Kept, Queue, Entry, RunLeft, begun, settled}
+use Rattle.search.specs.Queue.{Kept, Queue, RunLeft, begun, settled}
 use Rattle.search.proofs.Marks.{settled-at, settled-length, settled-count}
-use Rattle.search.proofs.Queues.{queue-fits}
 use Rattle.table.specs.declared.Table.{Table}
 use Rattle.table.specs.declared.answers.Found.{Found}
 use Rattle.table.specs.declared.answers.Mismatch.{Mismatch}
 use Rattle.table.specs.declared.answers.Verdict.the-variants as the
-use Rattle.replace.specs.State.{pair-of, run-of, State, EndedAt, found-at}
+use Rattle.replace.specs.State.{pair-of, run-of, State, EndedAt, found-at, Concludes}
 use Rattle.replace.specs.declared.Ended.{Ended}
 use Rattle.replace.proofs.States.{state-begins}
 
@@ -125,30 +124,8 @@ module _ (new : Table) (new-names : List ℕ) (old : Table) (old-names : List �
             scratch = L .scratch-cleared ∙ cleared-all (scratch-size new old) (before .scratch) scratch-size-twice scratch-exact;
           })
 
--- the entry at which it ended
-module _ {new : Table} {new-names : List ℕ} {old : Table} {old-names : List ℕ} {marks scratch : List ℕ} {r : Ended} (E : EndedAt new new-names old old-names marks scratch r) (l : r .at < r .tail) where
-  pub ended-entry : Entry (pair-count new old) marks scratch (r .at)
-  ended-entry = record { tail = r .tail; queue = E .state .queue; within = l }
-
-  pub ended-read : (r .at < length scratch) × (r .at < 32768)
-  ended-read =
-      let f = queue-fits (E .state .queue) in
-      (omega (arith, f, l, E .state .queue .scratch-long), omega (arith, f, l, E .state .queue .few))
-
--- What is asked on the way, of areas that are just as long as is needed.
+-- What is asked to begin, of areas that are just as long as is needed.
 module _ (new : Table) (new-names : List ℕ) (old : Table) (old-names : List ℕ) (new-formed : well-formed new new-names ≡ true) (old-formed : well-formed old old-names ≡ true) where
-  pub exact-areas :
-      {before : Areas} → length (before .marks) ≡ pair-count new old → length (before .path) ≡ pair-count new old
-      → length (before .scratch) ≡ scratch-size new old → NoRefusal new new-names old old-names before
-  exact-areas m p s =
-      record {
-        new-formed = new-formed;
-        old-formed = old-formed;
-        marks-long = omega arith;
-        path-long = omega arith;
-        scratch-long = omega arith;
-      }
-
   module _ {size start : ℕ} (of-pairs : size ≡ pair-count new old) (of-starts : start ≡ mark-place new old (starts new old)) where
     pub begin-asks :
         {marks scratch : ℕ} → marks ≡ pair-count new old → scratch ≡ scratch-size new old
@@ -176,3 +153,32 @@ pub found-made :
 found-made n m a steps w e f =
     λ i.
     record { reason = e i; detail = f i; new = pair-in n m a .new; old = pair-in n m a .old; turn = pair-in n m a .turn; steps = steps }
+
+-- The reply to the search's end, for any tables of these sizes.
+module _ {n m : ℕ} {ended : Ended} {marks path scratch marks′ scratch′ : List ℕ} where
+  pub concluded-yes :
+      ended .tail ≤ ended .at → marks′ ≡ map settled marks → scratch′ ≡ replicate (length scratch) 0
+      → Concludes n m ended marks path scratch marks′ path scratch′ (the.Yes (ended .tail))
+  concluded-yes l a b =
+      record {
+        replies =
+            λ new new-names old old-names before en em F lm ls ep E.
+            subst
+            (λ (p : List ℕ).
+            Replaces new new-names old old-names before (record { marks = marks′; path = p; scratch = scratch′ }) (the.Yes (ended .tail)))
+            ep (decided-yes new new-names old old-names F lm ls E l a b);
+      }
+
+  pub concluded-no :
+      {size a steps : ℕ} {path′ : List ℕ} {f : Found} → ended .at < ended .tail → size ≡ turns-most * n * m → a ≡ getD scratch (ended .at) 0
+      → RunLeft size marks path scratch (ended .at) marks′ path′ scratch′ steps → f ≡ found-at n m a (ended .wrong) steps
+      → Concludes n m ended marks path scratch marks′ path′ scratch′ (the.No f)
+  concluded-no {size} {a} {steps} {path′} l of-size at L e =
+      record {
+        replies =
+            λ new new-names old old-names before en em F lm ls ep E.
+            let here : RunLeft (pair-count new old) marks (before .path) scratch (ended .at) marks′ path′ scratch′ steps =
+            subst (λ (k : ℕ). RunLeft k marks (before .path) scratch (ended .at) marks′ path′ scratch′ steps) (of-size ∙ (rw (en, em)))
+            (subst (λ (p : List ℕ). RunLeft size marks p scratch (ended .at) marks′ path′ scratch′ steps) (sym ep) L) in
+            decided-no new new-names old old-names F lm ls E l at here (e ∙ (rw (en, em)));
+      }

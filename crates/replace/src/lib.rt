@@ -26,11 +26,10 @@ ghost use Rattle.rules.specs.Formed.{well-formed};
 ghost use Rattle.rules.specs.Pairs.{turns-most, turn-after, left-in, right-in, reason, detail};
 ghost use Rattle.rules.specs.Replies.{Replaces, pair-count, scratch-size};
 ghost use Rattle.rules.specs.computed.Verdict.{fits};
-ghost use Rattle.rules.proofs.Formed.{WellFormed};
 ghost use Rattle.rules.proofs.Places.{place};
 ghost use Rattle.rules.proofs.Steps.{Inside};
 ghost use Rattle.replace.specs.Taking.{Landing, LandsAt, Ready, Leading, StepTaken, StepsTaken, Formed, Takes};
-ghost use Rattle.replace.specs.State.{State, EndedAt, found-at};
+ghost use Rattle.replace.specs.State.{EndedAt, found-at, Concludable, Concludes};
 
 // The column "No." of document 01's refusal list.
 const NOT_WELL_FORMED: usize = 10;
@@ -229,6 +228,7 @@ pub struct Ended {
     pub wrong: Mismatch,
 }
 
+// The search, in areas of just the lengths that are needed, whatever they hold.
 fn explore(
     new: Table,
     new_names: &[u8],
@@ -237,12 +237,14 @@ fn explore(
     marks: &mut [u8],
     scratch: &mut [u16],
 ) -> Ended
-    requires { ⌜ WellFormed new (now «new_names») × WellFormed old (now «old_names») × State new (now «new_names») old (now «old_names») (record { marks = now marks; scratch = now scratch; tail = 1 }) 0 0 0 ⌝ }
+    requires { ⌜ (well-formed new (now «new_names») ≡ true) × (well-formed old (now «old_names») ≡ true) × (length (now marks) ≡ pair-count new old) × (length (now scratch) ≡ scratch-size new old) ⌝ }
     ensures { λ r. ⌜ EndedAt new (now («new_names» .entry)) old (now («old_names» .entry)) (now (marks .exit)) (now (scratch .exit)) r ⌝ }
 {
     let n = new.count as usize;
     let m = old.count as usize;
     let sizes = Sizes { new: n, old: m };
+    let start = mark_place(sizes, 0, new.start as usize, old.start as usize);
+    begin(pair_count(sizes), start, marks, scratch);
     let mut at = 0;
     let mut tail = 1;
     while at < tail {
@@ -251,13 +253,14 @@ fn explore(
         let j = place % m;
         let x = new.nodes[i];
         let y = old.nodes[j];
+        let turn = place / m / n;
         let taken = take_nodes(
             x,
             new_names,
             y,
             old_names,
             sizes,
-            place / m / n,
+            turn,
             at,
             tail,
             marks,
@@ -318,26 +321,18 @@ fn found(sizes: Sizes, place: usize, wrong: Mismatch, steps: usize) -> Found
     }
 }
 
-// The verdict, in areas of just the lengths that are needed.
-fn decide(
-    new: Table,
-    new_names: &[u8],
-    old: Table,
-    old_names: &[u8],
+// The answer to the search's end, and what is left in the areas, which are just as long as is needed. It takes no table, so that a table is
+// handed on once.
+fn conclude(
+    ended: Ended,
+    sizes: Sizes,
     marks: &mut [u8],
     path: &mut [u16],
     scratch: &mut [u16],
 ) -> Verdict
-    requires { ⌜ (well-formed new (now «new_names») ≡ true) × (well-formed old (now «old_names») ≡ true) × (length (now marks) ≡ pair-count new old) × (length (now path) ≡ pair-count new old) × (length (now scratch) ≡ scratch-size new old) ⌝ }
-    ensures { λ r. ⌜ Replaces new (now («new_names» .entry)) old (now («old_names» .entry)) (record { marks = now (marks .entry); path = now (path .entry); scratch = now (scratch .entry) }) (record { marks = now (marks .exit); path = now (path .exit); scratch = now (scratch .exit) }) r ⌝ }
+    requires { ⌜ Concludable (sizes .new) (sizes .old) (now marks) (now path) (now scratch) (ended .tail) ⌝ }
+    ensures { λ r. ⌜ Concludes (sizes .new) (sizes .old) ended (now (marks .entry)) (now (path .entry)) (now (scratch .entry)) (now (marks .exit)) (now (path .exit)) (now (scratch .exit)) r ⌝ }
 {
-    let n = new.count as usize;
-    let m = old.count as usize;
-    let sizes = Sizes { new: n, old: m };
-    let size = pair_count(sizes);
-    let start = mark_place(sizes, 0, new.start as usize, old.start as usize);
-    begin(size, start, marks, scratch);
-    let ended = explore(new, new_names, old, old_names, marks, scratch);
     let at = ended.at;
     let tail = ended.tail;
     if tail <= at {
@@ -345,6 +340,7 @@ fn decide(
         return Verdict::Yes(tail);
     }
     let last = wide(scratch[at]);
+    let size = pair_count(sizes);
     let steps = leave_run(size, at, marks, path, scratch);
     let wrong = ended.wrong;
     Verdict::No(found(sizes, last, wrong, steps))
@@ -376,7 +372,8 @@ pub fn may_replace(
     }
     let n = new.count as usize;
     let m = old.count as usize;
-    let size = pair_count(Sizes { new: n, old: m });
+    let sizes = Sizes { new: n, old: m };
+    let size = pair_count(sizes);
     if marks.len() < size {
         return Verdict::Refused {
             number: AREA_TOO_SHORT,
@@ -396,11 +393,17 @@ pub fn may_replace(
             place: 3,
         };
     }
-    decide(
+    let ended = explore(
         new,
         new_names,
         old,
         old_names,
+        &mut marks[..size],
+        &mut scratch[..twice],
+    );
+    conclude(
+        ended,
+        sizes,
         &mut marks[..size],
         &mut path[..size],
         &mut scratch[..twice],
