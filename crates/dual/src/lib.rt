@@ -4,6 +4,7 @@ use blanks::BLANK_LABEL;
 use blanks::BLANK_SLOT;
 use blanks::blank_node;
 use blanks::refused;
+use formed::NOT_WELL_FORMED;
 use formed::well_formed;
 use nodes::is_message;
 use nodes::item_at;
@@ -31,8 +32,6 @@ ghost use Rattle.rules.specs.Replies.{dual-reply};
 ghost use Rattle.dual.specs.Making.{ItemFits, LinkFits, ItemsFit, LabelsFit, NodeFits, NodesFit, turned-nodes};
 
 // The column "No." of document 01's refusal list.
-const NOT_WELL_FORMED: usize = 10;
-
 const DUAL_TOO_LARGE: usize = 13;
 
 fn turned_kind(k: Kind) -> Kind

@@ -24,6 +24,9 @@ ghost use Rattle.rules.specs.Basics.{every};
 ghost use Rattle.rules.specs.Tables.{item-at, item-count, label-at, label-count};
 ghost use Rattle.rules.specs.Formed.{item-formed, label-formed, label-new, message-formed, choice-formed, node-formed, well-formed};
 
+// The column "No." of document 01's refusal list, for whoever refuses a table that is not well formed.
+pub const NOT_WELL_FORMED: usize = 10;
+
 fn item_formed(n: u8, item: Item) -> bool
     ensures { λ r. ⌜ r ≡ item-formed n item ⌝ }
 {

@@ -4,6 +4,8 @@ use formed::well_formed;
 use nodes::is_choice;
 use nodes::label_count;
 use nodes::spelling_at;
+use pairs::LABEL_MISSING;
+use pairs::TURNS;
 use pairs::kind_number;
 use pairs::left_chooses;
 use table::Kind;
@@ -20,12 +22,6 @@ ghost use Rattle.rules.specs.Tables.{is-choice, label-count, spelling-at};
 ghost use Rattle.rules.specs.Pairs.{kind-number};
 ghost use Rattle.table.specs.declared.answers.Verdict.the-variants.{No};
 ghost use Rattle.rules.specs.Replies.{of-chooser, found-fits, chooser, missing-label};
-
-// "23: a chosen label is missing"
-const LABEL_MISSING: usize = 23;
-
-// "with turn 0 or 1"
-const TURNS: usize = 2;
 
 // Whether of two nodes of this kind the new table's chooses: "by kind and turn".
 fn new_chooses(k: Kind, turn: usize) -> bool

@@ -22,12 +22,18 @@ ghost use Prim.Native.Nat.{_<_, _≤_};
 ghost use Rattle.rules.specs.Basics.{first, same};
 ghost use Rattle.rules.specs.Numbers.{items-most, labels-most};
 ghost use Rattle.rules.specs.Tables.{item-count, item-at, label-count};
-ghost use Rattle.rules.specs.Pairs.{kind-number, sort-number, items-agree, by-chooser, into-item, message-step, exchanged};
+ghost use Rattle.rules.specs.Pairs.{reason, detail, kind-number, sort-number, items-agree, by-chooser, into-item, message-step, exchanged};
 ghost use Rattle.table.specs.declared.Item.the-variants.{OfSort, Session};
 ghost use Rattle.pairs.specs.Beside.{Listed, ListOnce, spelled, FoundFrom, Covers, Compares, onward, StepsAs, ChoosesAs, StepsBelow};
 
 // "then 4 for the continuation"
 const CONTINUATION_STEP: usize = 4;
+
+// "with turn 0 or 1"
+pub const TURNS: usize = 2;
+
+// "23: a chosen label is missing"
+pub const LABEL_MISSING: usize = 23;
 
 // What is wrong with two nodes, and, where nothing is, the position in the other list of each label of the chooser.
 pub struct Compared {
@@ -232,6 +238,31 @@ pub fn compare(x: Node, xs: &[u8], y: Node, ys: &[u8]) -> Compared
         return cover(x, xs, y, ys);
     }
     cover(y, ys, x, xs)
+}
+
+// The number and the detail of each case.
+pub fn reason(wrong: Mismatch) -> usize
+    ensures { λ r. ⌜ r ≡ reason wrong ⌝ }
+{
+    match wrong {
+        Mismatch::Nothing => 0,
+        Mismatch::Kinds => 20,
+        Mismatch::Counts => 21,
+        Mismatch::Item(_) => 22,
+        Mismatch::Label(_) => LABEL_MISSING,
+    }
+}
+
+pub fn detail(wrong: Mismatch) -> usize
+    ensures { λ r. ⌜ r ≡ detail wrong ⌝ }
+{
+    match wrong {
+        Mismatch::Nothing => 0,
+        Mismatch::Kinds => 0,
+        Mismatch::Counts => 0,
+        Mismatch::Item(i) => i,
+        Mismatch::Label(i) => i,
+    }
 }
 
 fn into_item(a: Item, b: Item, turns: bool) -> Onward

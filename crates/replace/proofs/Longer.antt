@@ -145,7 +145,7 @@ module _ {new : Table} {new-names : List ℕ} {old : Table} {old-names : List �
         scratch-long = omega (arith, s, twice-scratch new old e);
       }
 
-  pub replaces-whole :
+  replaces-whole :
       {marks′ path′ scratch′ : List ℕ} {v : Verdict}
       → NoRefusal new new-names old old-names (record { marks = marks; path = path; scratch = scratch }) → size ≡ pair-count new old
       → length marks′ ≡ size → length path′ ≡ size
@@ -198,7 +198,7 @@ module _ {new : Table} {new-names : List ℕ} {old : Table} {old-names : List �
   pub replaces-concluded :
       {n m : ℕ} {ended : Ended} {marks₁ scratch₁ marks₂ path₂ scratch₂ : List ℕ} {v : Verdict}
       → NoRefusal new new-names old old-names (record { marks = marks; path = path; scratch = scratch }) → size ≡ pair-count new old
-      → n ≡ new .count → m ≡ old .count → size ≤ length marks → size ≤ length path → size + size ≤ length scratch → length marks₁ ≡ size
+      → n ≡ new .count → m ≡ old .count → size ≤ length marks → size + size ≤ length scratch → length marks₁ ≡ size
       → length scratch₁ ≡ size + size → length marks₂ ≡ size → length path₂ ≡ size
       → EndedAt new new-names old old-names marks₁ scratch₁ ended
       → Concludes n m ended (take size (marks₁ ++ drop size marks)) (take size path)
@@ -210,17 +210,17 @@ module _ {new : Table} {new-names : List ℕ} {old : Table} {old-names : List �
         scratch = scratch₂ ++ drop (size + size) (scratch₁ ++ drop (size + size) scratch);
       })
       v
-  replaces-concluded {n} {m} {ended} {marks₁} {scratch₁} {marks₂} {path₂} {scratch₂} {v} F e en em lm lp ls l₁ k₁ l₂ p₂ E C =
+  replaces-concluded {n} {m} {ended} {marks₁} {scratch₁} {marks₂} {path₂} {scratch₂} {v} F e en em lm ls l₁ k₁ l₂ p₂ E C =
+      let d : size + size ≡ scratch-size new old = twice-scratch new old e in
       let parts : NoRefusal new new-names old old-names
       (record { marks = take size marks; path = take size path; scratch = take (size + size) scratch }) =
-      none-applies (F .new-formed) (F .old-formed) e (omega (arith, part-long marks lm)) (omega (arith, part-long path lp))
-      (omega (arith, part-long scratch ls)) in
+      rw (d, e) (parts-no-refusal F) in
       let ended-there : EndedAt new new-names old old-names (take size (marks₁ ++ drop size marks))
       (take (size + size) (scratch₁ ++ drop (size + size) scratch)) ended =
       rw (take-at marks₁ (drop size marks) size l₁, take-at scratch₁ (drop (size + size) scratch) (size + size) k₁) E in
       let R =
       C .replies new new-names old old-names
       (record { marks = take size marks; path = take size path; scratch = take (size + size) scratch }) en em parts
-      (part-long marks lm ∙ e) (part-long scratch ls ∙ twice-scratch new old e) refl ended-there in
+      (part-long marks lm ∙ e) (part-long scratch ls ∙ d) refl ended-there in
       rw (drop-at marks₁ (drop size marks) size l₁, drop-at scratch₁ (drop (size + size) scratch) (size + size) k₁)
       (replaces-whole F e l₂ p₂ R)

@@ -66,7 +66,7 @@ module _ (new : Table) (new-names : List ℕ) (old : Table) (old-names : List �
     scratch-size-twice = E .state .queue .scratch-long ∙ sym (scratch-twice (new .count) (old .count))
 
     -- every entry was looked at
-    pub decided-yes :
+    decided-yes :
         {marks′ scratch′ : List ℕ} → r .tail ≤ r .at → marks′ ≡ map settled marks → scratch′ ≡ replicate (length scratch) 0
         → Replaces new new-names old old-names before (record { marks = marks′; path = before .path; scratch = scratch′ }) (the.Yes (r .tail))
     decided-yes {marks′} {scratch′} l m s =
@@ -97,7 +97,7 @@ module _ (new : Table) (new-names : List ℕ) (old : Table) (old-names : List �
 
     module _ (l : r .at < r .tail) where
       -- something was wrong at the pair of place a
-      pub decided-no :
+      decided-no :
           {a steps : ℕ} {marks′ path′ scratch′ : List ℕ} {f : Found} → a ≡ getD scratch (r .at) 0
           → RunLeft N marks (before .path) scratch (r .at) marks′ path′ scratch′ steps
           → f ≡ found-at (new .count) (old .count) a (r .wrong) steps

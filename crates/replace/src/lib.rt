@@ -1,9 +1,13 @@
 // Whether one table may replace another. `may_replace` gives every two tables, with any name bytes and any lent areas, the reply that
 // `Replaces` of `rules` allows, and asks nothing of its caller. The search goes over pairs, breadth first, in the lent areas alone: the
 // crate `search` keeps them, the crate `pairs` says what is wrong with a pair and where its steps lead.
+use formed::NOT_WELL_FORMED;
 use formed::well_formed;
 use pairs::Onward;
+use pairs::TURNS;
 use pairs::compare;
+use pairs::detail;
+use pairs::reason;
 use pairs::step;
 use pairs::step_limit;
 use search::begin;
@@ -23,7 +27,7 @@ ghost use Prim.Native.Nat.{_*_, _<_, _≤_};
 ghost use lib.ListN.{length};
 ghost use Rattle.rules.specs.Numbers.{table-nodes-most, labels-most};
 ghost use Rattle.rules.specs.Formed.{well-formed};
-ghost use Rattle.rules.specs.Pairs.{turns-most, turn-after, left-in, right-in, reason, detail};
+ghost use Rattle.rules.specs.Pairs.{turns-most, turn-after, left-in, right-in};
 ghost use Rattle.rules.specs.Replies.{Replaces, pair-count, scratch-size};
 ghost use Rattle.rules.specs.computed.Verdict.{fits};
 ghost use Rattle.rules.proofs.Places.{place};
@@ -32,15 +36,10 @@ ghost use Rattle.replace.specs.Taking.{Landing, LandsAt, Ready, Leading,
 ghost use Rattle.replace.specs.State.{EndedAt, found-at, Concludable, Concludes};
 
 // The column "No." of document 01's refusal list.
-const NOT_WELL_FORMED: usize = 10;
-
 const AREA_TOO_SHORT: usize = 11;
 
-// "with turn 0 or 1"
-const TURNS: usize = 2;
-
 // The node counts of the two tables.
-pub struct Sizes {
+struct Sizes {
     pub new: usize,
     pub old: usize,
 }
@@ -135,7 +134,7 @@ fn expand(
 }
 
 // What came of an entry: what is wrong with its pair, and the queue's end, with what its steps lead to where nothing is wrong.
-pub struct Taken {
+struct Taken {
     pub wrong: Mismatch,
     pub tail: usize,
 }
@@ -222,7 +221,7 @@ fn take_nodes(
 }
 
 // Where the search ended: at the queue's end, or at the first entry with something wrong.
-pub struct Ended {
+struct Ended {
     pub at: usize,
     pub tail: usize,
     pub wrong: Mismatch,
@@ -277,30 +276,6 @@ fn explore(
         at,
         tail,
         wrong: Mismatch::Nothing,
-    }
-}
-
-fn reason(wrong: Mismatch) -> usize
-    ensures { λ r. ⌜ r ≡ reason wrong ⌝ }
-{
-    match wrong {
-        Mismatch::Nothing => 0,
-        Mismatch::Kinds => 20,
-        Mismatch::Counts => 21,
-        Mismatch::Item(_) => 22,
-        Mismatch::Label(_) => 23,
-    }
-}
-
-fn detail(wrong: Mismatch) -> usize
-    ensures { λ r. ⌜ r ≡ detail wrong ⌝ }
-{
-    match wrong {
-        Mismatch::Nothing => 0,
-        Mismatch::Kinds => 0,
-        Mismatch::Counts => 0,
-        Mismatch::Item(i) => i,
-        Mismatch::Label(i) => i,
     }
 }
 

@@ -122,7 +122,7 @@ module _ {size h q : ℕ} {k : Kept} (s : ℕ) (Q : Queue size k) (before : h < 
     pub parent-kept : (j : ℕ) → j < k .tail → getD (after .scratch) (size + j) 0 ≡ getD (k .scratch) (size + j) 0
     parent-kept j l = scratch-kept (size + j) (omega arith) (omega (arith, room))
 
-    pub other-mark-kept : (p : ℕ) → (p ≡ q → ⊥) → getD (after .marks) p 0 ≡ getD (k .marks) p 0
+    other-mark-kept : (p : ℕ) → (p ≡ q → ⊥) → getD (after .marks) p 0 ≡ getD (k .marks) p 0
     other-mark-kept p ne = rw marks-new (getD-set-other (k .marks) q p (s + 1) 0 ne)
 
     -- an entry's place is marked, so it is not q

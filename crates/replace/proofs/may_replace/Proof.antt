@@ -214,7 +214,7 @@ returns-6 c =
     .before .before .args in
     replaces-concluded (none-applies (sym (well-formed .ensures) ∙ not-false _ (if1 .left))
     (sym (well-formed2 .ensures) ∙ not-false _ (if2 .left)) (pair-count .ensures) (if3 .left) (if4 .left) (if5 .left))
-    (pair-count .ensures) refl refl (if3 .left) (if4 .left) (if5 .left) (explore .kept .1 .1 .1 .1 .0 ∙ part-long _ (if3 .left))
+    (pair-count .ensures) refl refl (if3 .left) (if5 .left) (explore .kept .1 .1 .1 .1 .0 ∙ part-long _ (if3 .left))
     (explore .kept .1 .1 .1 .1 .1 .0 ∙ part-long _ (if5 .left))
     (conclude .kept .1 .1 .0 ∙ sym (taken-long (explore .last .1 .1 .1 .1 .0) (drop (pair-count .result) (now (args .marks)))
     (explore .kept .1 .1 .1 .1 .0 ∙ part-long _ (if3 .left)))) (conclude .kept .1 .1 .1 .0 ∙ part-long _ (if4 .left))
