@@ -84,7 +84,7 @@ letter-not-dual D =
 -- each pair is reached in both turns
 pub own-session : Holds (compared A A "yes 4\n")
 unfolding computes
-own-session = prints-printed _
+own-session = prints-printed _ _
 
 -- the missing label of two texts, for a mismatch of this reason, detail, new node, old node and turn
 abbrev pub missing-of : String → String → ℕ → ℕ → ℕ → ℕ → ℕ → List ℕ

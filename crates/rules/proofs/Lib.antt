@@ -23,6 +23,7 @@ pub mod Smallest
 pub mod Searching
 pub mod Entries
 pub mod VerdictAgreement
+pub mod RunLength
 pub mod Names
 pub mod Refusals
 pub mod Replies
@@ -45,6 +46,7 @@ pub mod ReadersAgree
 pub mod Agreement
 pub mod Exactly
 pub mod ReadTables
+pub mod TextDual
 pub mod OneVerdict
 pub mod OneCompatible
 pub mod OneLine

@@ -2,19 +2,20 @@
 -- refusal.
 -- Assumes nothing.
 use mathlib.Core.Bool.{false≢true}
-use mathlib.Core.List.{List}
+use mathlib.Core.List.{List, []}
 use mathlib.Core.Logic.{_↔_}
-use mathlib.Core.Path.{_≡_, sym, _∙_}
+use mathlib.Core.Path.{_≡_, refl, sym, _∙_}
 use Prim.Native.Nat.{ℕ}
 use native.Mathlib.Omega.{arith}
 use lib.ListN.{length-replicate}
-use Rattle.rules.specs.Line.{Prints, first-refused, second-refused, yes, no, first-text, second-text}
+use Rattle.rules.specs.Line.{Question, against, Answers, Prints, first-refused, second-refused, yes, no, first-text, second-text}
 use Rattle.rules.specs.Replies.{Reads, accepts, refuses, Areas, NoRefusal, Replaces, new-not-formed, old-not-formed, marks-short, path-short, scratch-short, made, pair-count, scratch-size}
 use Rattle.rules.specs.computed.Line.{areas-for, verdict-line, second-line, first-line, printed}
 use Rattle.rules.specs.computed.Reading.{reading}
 use Rattle.rules.proofs.Agreement.{reads-reading}
 use Rattle.rules.proofs.OneLine.{one-line}
 use Rattle.rules.proofs.ReadTables.{read-formed}
+use Rattle.rules.proofs.TextDual.{against-formed}
 use Rattle.rules.proofs.VerdictAgreement.{verdict-replaces}
 use Rattle.table.specs.declared.Table.{Table}
 use Rattle.table.specs.declared.answers.Made.{Made}
@@ -31,39 +32,50 @@ never-refused F (marks-short a b m e) = omega (arith, m, F .marks-long)
 never-refused F (path-short a b m p e) = omega (arith, p, F .path-long)
 never-refused F (scratch-short a b m p s e) = omega (arith, s, F .scratch-long)
 
-module _ (input : List ℕ) where
-  verdict-prints :
-      (new old : Table) → Reads (first-text input) (made new) → Reads (second-text input) (made old) → (v : Verdict) (after : Areas)
-      → Replaces new (first-text input) old (second-text input) (areas-for new old) after v → Prints input (verdict-line v (after .path))
-  verdict-prints new old a b (the.Yes c) after r = yes a b r
-  verdict-prints new old a b (the.No f) after r = no a b r
-  verdict-prints new old a b (the.Refused n p) after r =
+abbrev pub no-areas : Areas
+no-areas = record { marks = []; path = []; scratch = [] }
+
+module _ (q : Question) (new-text old-text : List ℕ) where
+  verdict-answers :
+      (new old : Table) → Reads new-text (made new) → Reads old-text (made old) → (v : Verdict) (after : Areas)
+      → Replaces new new-text (against q old) old-text (areas-for new (against q old)) after v
+      → Answers q new-text old-text (areas-for new (against q old)) after (verdict-line v (after .path))
+  verdict-answers new old a b (the.Yes c) after r = yes a b r
+  verdict-answers new old a b (the.No f) after r = no a b r
+  verdict-answers new old a b (the.Refused n p) after r =
       absurd
       (never-refused
       (record {
         new-formed = read-formed a;
-        old-formed = read-formed b;
-        marks-long = omega (arith, length-replicate {A = ℕ} (pair-count new old) 0);
-        path-long = omega (arith, length-replicate {A = ℕ} (pair-count new old) 0);
-        scratch-long = omega (arith, length-replicate {A = ℕ} (scratch-size new old) 0);
+        old-formed = against-formed b q;
+        marks-long = omega (arith, length-replicate {A = ℕ} (pair-count new (against q old)) 0);
+        path-long = omega (arith, length-replicate {A = ℕ} (pair-count new (against q old)) 0);
+        scratch-long = omega (arith, length-replicate {A = ℕ} (scratch-size new (against q old)) 0);
       }) r)
 
-  second-prints :
-      (new : Table) → Reads (first-text input) (made new) → (m : Made) → Reads (second-text input) m
-      → Prints input (second-line new (first-text input) m (second-text input))
-  second-prints new a m (refuses f g) = second-refused a (refuses f g)
-  second-prints new a m (accepts {x} w f) =
-      verdict-prints new (m .table) a (accepts w f) _ _ (verdict-replaces new (first-text input) (m .table) (second-text input) (areas-for new (m .table)))
+  -- a line, and areas that it comes with
+  abbrev Answered : List ℕ → Type 0
+  Answered l = (before : Areas) × (after : Areas) × Answers q new-text old-text before after l
 
-  first-prints : (m : Made) → Reads (first-text input) m → Prints input (first-line m (first-text input) (second-text input))
+  second-answers :
+      (new : Table) → Reads new-text (made new) → (m : Made) → Reads old-text m → Answered (second-line q new new-text m old-text)
+  second-answers new a m (refuses f g) = (no-areas, no-areas, second-refused a (refuses f g) refl)
+  second-answers new a m (accepts {x} w f) =
+      let old = against q (m .table) in
+      (areas-for new old, _, verdict-answers new (m .table) a (accepts w f) _ _ (verdict-replaces new new-text old old-text (areas-for new old)))
+
+  first-answers : (m : Made) → Reads new-text m → Answered (first-line q m new-text old-text)
   unfolding first-line
-  first-prints m (refuses f g) = first-refused (refuses f g)
-  first-prints m (accepts w f) = second-prints (m .table) (accepts w f) (reading (second-text input)) (reads-reading (second-text input))
+  first-answers m (refuses f g) = (no-areas, no-areas, first-refused (refuses f g) refl)
+  first-answers m (accepts w f) = second-answers (m .table) (accepts w f) (reading old-text) (reads-reading old-text)
 
-  pub prints-printed : Prints input (printed input)
+module _ (q : Question) (input : List ℕ) where
+  pub prints-printed : Prints q input (printed q input)
   unfolding printed
-  prints-printed = first-prints (reading (first-text input)) (reads-reading (first-text input))
+  prints-printed =
+      let r = first-answers q (first-text input) (second-text input) (reading (first-text input)) (reads-reading (first-text input)) in
+      record { before = r .0; after = r .1; answers = r .2 }
 
   -- So a line exists, and it is one.
-  pub printed-exactly : (l : List ℕ) → Prints input l ↔ (l ≡ printed input)
+  pub printed-exactly : (l : List ℕ) → Prints q input l ↔ (l ≡ printed q input)
   printed-exactly l = (λ P. one-line P prints-printed, λ e. rw e prints-printed)

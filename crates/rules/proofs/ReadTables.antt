@@ -285,3 +285,8 @@ read-formed {s} {t} r =
     rw (T .table)
     (formed-true
     (table-formed (T .tree) s (text-nodes (T .writes) (T .clear)) (text-fit (T .writes) (T .clear)) (uses-get-to (T .tree) (T .defined) (T .lead))))
+
+-- "64 nodes in a text"
+pub read-few : {s : List ℕ} {t : Table} → Reads s (made t) → t .count ≤ text-nodes-most
+unfolding table-of
+read-few r = let T = has-table r in rw (T .table) (text-nodes (T .writes) (T .clear))

@@ -13,13 +13,14 @@ use Rattle.rules.proofs.Agreement.{reads-reading}
 use Rattle.rules.proofs.Computes.{computes}
 use Rattle.rules.proofs.Examples.{A}
 use Rattle.rules.proofs.Hollow.{table}
+use Rattle.rules.proofs.LineAgreement.{no-areas}
 use Rattle.rules.proofs.OneLine.{one-line}
 use Rattle.rules.proofs.OneReading.{one-reading}
 use Rattle.rules.proofs.Replies.{made-not-refused, refused-one}
 use Rattle.rules.proofs.Starred.{R}
 use Rattle.rules.specs.Basics.{bytes}
 use Rattle.rules.specs.Formed.{well-formed}
-use Rattle.rules.specs.Line.{Prints, first-refused, second-refused, yes, no, line, fields}
+use Rattle.rules.specs.Line.{Question, Answers, Prints, first-refused, second-refused, yes, no, line, fields}
 use Rattle.rules.specs.Refusals.{unexpected, never-defined, leads-round}
 use Rattle.rules.specs.Replies.{Reads, made, refused, dual-reply, Areas, AsksCompatible, no-dual, then-verdict}
 use Rattle.rules.specs.Tables.{blank-table, node-at, item-at}
@@ -80,16 +81,16 @@ unfolding computes
 asked-all-the-same before after m v (then-verdict e X) = made-not-refused (sym e)
 
 -- The printed line: of two refused texts the first is named; and a line feed is last in every line.
-pub first-named : {l : List ℕ} → Prints (0 ∷ []) l → l ≡ bytes "refused 2 1 0\n"
+pub first-named : {q : Question} {l : List ℕ} → Prints q (0 ∷ []) l → l ≡ bytes "refused 2 1 0\n"
 unfolding computes
-first-named r = one-line r (first-refused reads-empty)
+first-named {q} r = one-line r (record { before = no-areas; after = no-areas; answers = first-refused reads-empty refl })
 
 fed : (w ks : List ℕ) → (k : List ℕ) × (line w ks ≡ k ++ bytes "\n")
 fed w ks = (w ++ fields ks, refl)
 
-pub line-feed-last : {input l : List ℕ} → Prints input l → (k : List ℕ) × (l ≡ k ++ bytes "\n")
-line-feed-last (first-refused {n} {p} a) = fed (bytes "refused") (n ∷ 1 ∷ p ∷ [])
-line-feed-last (second-refused {n = n} {p = p} a b) = fed (bytes "refused") (n ∷ 2 ∷ p ∷ [])
+pub line-feed-last : {q : Question} {new old l : List ℕ} {before after : Areas} → Answers q new old before after l → (k : List ℕ) × (l ≡ k ++ bytes "\n")
+line-feed-last (first-refused {n} {p} a e) = fed (bytes "refused") (n ∷ 1 ∷ p ∷ [])
+line-feed-last (second-refused {n = n} {p = p} a b e) = fed (bytes "refused") (n ∷ 2 ∷ p ∷ [])
 line-feed-last (yes {count = c} a b d) = fed (bytes "yes") (c ∷ [])
-line-feed-last (no {after = q} {found = f} a b d) =
-    fed (bytes "no") (f .reason ∷ f .detail ∷ f .new ∷ f .old ∷ f .turn ∷ take (f .steps) (q .path))
+line-feed-last {after = r} (no {found = f} a b d) =
+    fed (bytes "no") (f .reason ∷ f .detail ∷ f .new ∷ f .old ∷ f .turn ∷ take (f .steps) (r .path))

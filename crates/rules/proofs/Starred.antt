@@ -7,7 +7,7 @@ use Rattle.rules.proofs.Agreement.{reads-reading}
 use Rattle.rules.proofs.Computes.{computes}
 use Rattle.rules.proofs.LineAgreement.{prints-printed}
 use Rattle.rules.specs.Basics.{bytes}
-use Rattle.rules.specs.Line.{Prints}
+use Rattle.rules.specs.Line.{Prints, may-replace}
 use Rattle.rules.specs.Replies.{Reads, refused}
 
 pub data Row : Type 0 where
@@ -18,7 +18,7 @@ pub data Row : Type 0 where
 
 -- a text's row says what the declared reading replies, and a line's row what the declared verdict prints
 abbrev pub Holds : Row → Type 0
-Holds (compared new old line) = Prints (bytes new ++ (0 ∷ bytes old)) (bytes line)
+Holds (compared new old line) = Prints may-replace (bytes new ++ (0 ∷ bytes old)) (bytes line)
 Holds (read text number place) = Reads (bytes text) (refused number place)
 
 abbrev pub AllHold : List Row → Type 0
@@ -59,4 +59,4 @@ starred =
 pub starred-hold : AllHold starred
 unfolding computes starred
 starred-hold =
-    (prints-printed _, (prints-printed _, (prints-printed _, (prints-printed _, (prints-printed _, (prints-printed _, (prints-printed _, (prints-printed _, (prints-printed _, (reads-reading _, (reads-reading _, (reads-reading _, tt))))))))))))
+    (prints-printed _ _, (prints-printed _ _, (prints-printed _ _, (prints-printed _ _, (prints-printed _ _, (prints-printed _ _, (prints-printed _ _, (prints-printed _ _, (prints-printed _ _, (reads-reading _, (reads-reading _, (reads-reading _, tt))))))))))))

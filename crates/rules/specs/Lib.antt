@@ -15,4 +15,5 @@ pub mod Runs
 pub mod Replace
 pub mod Replies
 pub mod Line
+pub mod Writing
 pub mod computed

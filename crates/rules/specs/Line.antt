@@ -1,11 +1,13 @@
--- Document 01, "The printed verdict".
+-- Document 01, "The printed verdict"; the same line is printed where compatible is asked.
 -- Assumes nothing.
 use mathlib.Core.Bool.{true, false}
 use mathlib.Core.List.{List, [], _∷_, _++_}
+use mathlib.Core.Path.{_≡_}
 use Prim.Native.Nat.{ℕ, zero, suc, _+_, _/_, _%_}
 use lib.Dec.{eqb, ltb}
 use lib.ListN.{take}
 use Rattle.rules.specs.Basics.{bytes}
+use Rattle.rules.specs.Dual.{dual}
 use Rattle.rules.specs.Replies.{Reads, Areas, Replaces, refused, made}
 use Rattle.table.specs.declared.Table.{Table}
 use Rattle.table.specs.declared.answers.Found.{Found}
@@ -49,16 +51,33 @@ no-line f steps = line (bytes "no") (f .reason ∷ f .detail ∷ f .new ∷ f .o
 abbrev pub refused-line : ℕ → ℕ → ℕ → List ℕ
 refused-line number which place = line (bytes "refused") (number ∷ which ∷ place ∷ [])
 
--- The line printed for an input: "The first text's refusal goes first." A table goes with its text as its name bytes.
-pub data Prints (input : List ℕ) : List ℕ → Type 0 where
-  first-refused : {n p : ℕ} → Reads (first-text input) (refused n p) → Prints input (refused-line n 1 p)
-  second-refused :
-      {new : Table} {n p : ℕ} → Reads (first-text input) (made new) → Reads (second-text input) (refused n p)
-      → Prints input (refused-line n 2 p)
-  yes :
-      {new old : Table} {before after : Areas} {count : ℕ} → Reads (first-text input) (made new) → Reads (second-text input) (made old)
-      → Replaces new (first-text input) old (second-text input) before after (verdict.Yes count) → Prints input (yes-line count)
-  no :
-      {new old : Table} {before after : Areas} {found : Found} → Reads (first-text input) (made new) → Reads (second-text input) (made old)
-      → Replaces new (first-text input) old (second-text input) before after (verdict.No found)
-      → Prints input (no-line found (take (found .steps) (after .path)))
+-- What is asked of two texts: whether new may replace old, or whether new is compatible with other.
+pub data Question : Type 0 where
+  may-replace : Question
+  is-compatible : Question
+
+-- the table that new is held against, from that of the second text: "New is compatible with other if new may replace the dual of other."
+abbrev pub against : Question → Table → Table
+against may-replace old = old
+against is-compatible other = dual other
+
+module _ (q : Question) (new-text old-text : List ℕ) (before after : Areas) where
+  -- The line for two texts, with what the areas that are lent for the verdict hold before and after it: "The first text's refusal goes
+  -- first." A table goes with its text as its name bytes.
+  pub data Answers : List ℕ → Type 0 where
+    first-refused : {n p : ℕ} → Reads new-text (refused n p) → after ≡ before → Answers (refused-line n 1 p)
+    second-refused :
+        {new : Table} {n p : ℕ} → Reads new-text (made new) → Reads old-text (refused n p) → after ≡ before → Answers (refused-line n 2 p)
+    yes :
+        {new old : Table} {count : ℕ} → Reads new-text (made new) → Reads old-text (made old)
+        → Replaces new new-text (against q old) old-text before after (verdict.Yes count) → Answers (yes-line count)
+    no :
+        {new old : Table} {found : Found} → Reads new-text (made new) → Reads old-text (made old)
+        → Replaces new new-text (against q old) old-text before after (verdict.No found)
+        → Answers (no-line found (take (found .steps) (after .path)))
+
+-- The line printed for an input, whatever areas the program lends for the verdict.
+pub record Prints (q : Question) (input l : List ℕ) : Type 0 where
+  pub before : Areas
+  pub after : Areas
+  pub answers : Answers q (first-text input) (second-text input) before after l

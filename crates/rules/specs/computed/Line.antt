@@ -3,7 +3,7 @@
 use mathlib.Core.List.{List, []}
 use Prim.Native.Nat.{ℕ}
 use lib.ListN.{take, replicate}
-use Rattle.rules.specs.Line.{first-text, second-text, yes-line, no-line, refused-line}
+use Rattle.rules.specs.Line.{Question, against, first-text, second-text, yes-line, no-line, refused-line}
 use Rattle.rules.specs.Replies.{Areas, pair-count, scratch-size}
 use Rattle.rules.specs.computed.Reading.{reading}
 use Rattle.rules.specs.computed.Verdict.{Reply, verdict}
@@ -30,19 +30,23 @@ verdict-line (the.Refused n p) path = []
 abbrev pub reply-line : Reply → List ℕ
 reply-line r = verdict-line (r .answer) (r .areas .path)
 
-abbrev pub second-line : Table → List ℕ → Made → List ℕ → List ℕ
-second-line new new-names m old-names =
+abbrev pub second-line : Question → Table → List ℕ → Made → List ℕ → List ℕ
+second-line q new new-names m old-names =
     elim (m .answer) [
       | answer.Refused n p ↦ refused-line n 2 p
-      | answer.Accepted ↦ reply-line (verdict new new-names (m .table) old-names (areas-for new (m .table)))
+      | answer.Accepted ↦ reply-line (verdict new new-names (against q (m .table)) old-names (areas-for new (against q (m .table))))
     ]
 
-unfoldable pub first-line : Made → List ℕ → List ℕ → List ℕ
-first-line m new-names old-names =
+unfoldable pub first-line : Question → Made → List ℕ → List ℕ → List ℕ
+first-line q m new-names old-names =
     elim (m .answer) [
       | answer.Refused n p ↦ refused-line n 1 p
-      | answer.Accepted ↦ second-line (m .table) new-names (reading old-names) old-names
+      | answer.Accepted ↦ second-line q (m .table) new-names (reading old-names) old-names
     ]
 
-unfoldable pub printed : List ℕ → List ℕ
-printed input = first-line (reading (first-text input)) (first-text input) (second-text input)
+-- the line for two texts, and for an input
+abbrev pub line-of : Question → List ℕ → List ℕ → List ℕ
+line-of q new-text old-text = first-line q (reading new-text) new-text old-text
+
+unfoldable pub printed : Question → List ℕ → List ℕ
+printed q input = line-of q (first-text input) (second-text input)

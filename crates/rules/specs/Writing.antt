@@ -1,0 +1,61 @@
+-- The reply of the functions that write the printed line into a lent area. Document 01 lends no area for the line; that there is one, the
+-- fourth, and how long it is to be, is ours. The other three are those of the verdict.
+-- Assumes nothing.
+use mathlib.Core.List.{List, _++_}
+use mathlib.Core.Path.{_≡_}
+use Prim.Native.Nat.{ℕ, _<_, _≤_, _+_, _*_}
+use lib.ListN.{length, drop}
+use Rattle.rules.specs.Pairs.{turns-most}
+use Rattle.rules.specs.Refusals.{area-too-short}
+use Rattle.rules.specs.Replies.{Areas, Reads}
+use Rattle.rules.specs.Line.{Question, against, Answers}
+use Rattle.table.specs.declared.answers.Made.{Made}
+use Rattle.table.specs.declared.answers.Written.{Written}
+use Rattle.table.specs.declared.answers.Written.the-variants.{Line, Refused}
+
+-- what the four lent areas hold: marks, path and scratch, and the line
+pub record LineAreas : Type 0 where
+  pub lent : Areas
+  pub line : List ℕ
+
+-- the length of the line's area, in bytes: with n and m nodes there are at most 2 × n × m steps, of three bytes each with the space
+abbrev pub line-size : ℕ → ℕ → ℕ
+line-size n m = 6 * n * m + 18
+
+-- the node counts of the tables that are held against each other; beside a refusal a table has no nodes
+pub record Counts (q : Question) (new-text old-text : List ℕ) (n m : ℕ) : Type 0 where
+  pub first : Made
+  pub second : Made
+  pub first-read : Reads new-text first
+  pub second-read : Reads old-text second
+  pub new-count : n ≡ first .table .count
+  pub old-count : m ≡ against q (second .table) .count
+
+-- every area is long enough for n and m nodes
+pub record AllLong (n m : ℕ) (before : LineAreas) : Type 0 where
+  pub marks-long : turns-most * n * m ≤ length (before .lent .marks)
+  pub path-long : turns-most * n * m ≤ length (before .lent .path)
+  pub scratch-long : 4 * n * m ≤ length (before .lent .scratch)
+  pub line-long : line-size n m ≤ length (before .line)
+
+-- the least area that is too short for n and m nodes is this one
+pub data LeastShort (n m : ℕ) (before : LineAreas) : ℕ → Type 0 where
+  marks-short : length (before .lent .marks) < turns-most * n * m → LeastShort n m before 1
+  path-short :
+      turns-most * n * m ≤ length (before .lent .marks) → length (before .lent .path) < turns-most * n * m → LeastShort n m before 2
+  scratch-short :
+      turns-most * n * m ≤ length (before .lent .marks) → turns-most * n * m ≤ length (before .lent .path)
+      → length (before .lent .scratch) < 4 * n * m → LeastShort n m before 3
+  line-short :
+      turns-most * n * m ≤ length (before .lent .marks) → turns-most * n * m ≤ length (before .lent .path)
+      → 4 * n * m ≤ length (before .lent .scratch) → length (before .line) < line-size n m → LeastShort n m before 4
+
+-- The reply: 11 for the least area, where nothing is written; else the line stands at the front of its area, and what is beyond stays.
+pub data WritesLine (q : Question) (new-text old-text : List ℕ) (before after : LineAreas) : Written → Type 0 where
+  refuses :
+      {n m k : ℕ} → Counts q new-text old-text n m → LeastShort n m before k → after ≡ before
+      → WritesLine q new-text old-text before after (Refused area-too-short k)
+  writes :
+      {n m : ℕ} {l : List ℕ} → Counts q new-text old-text n m → AllLong n m before
+      → Answers q new-text old-text (before .lent) (after .lent) l → after .line ≡ l ++ drop (length l) (before .line)
+      → WritesLine q new-text old-text before after (Line (length l))
