@@ -190,7 +190,7 @@ none-before-long m q l g = go (decLt name-twice m) g
     go (no k) (inl h) = omega (arith, group-middle m l (omega arith))
     go (no k) (inr (e, h)) = omega (arith, group-middle m l (omega arith))
 
-reads-long : {s : List ℕ} → text-most < length s → Reads s (refused text-too-long 0)
+pub reads-long : {s : List ℕ} → text-most < length s → Reads s (refused text-too-long 0)
 reads-long {s} l = refuses (long-text l) none-first
   where
     none-first : (m q : ℕ) → Fault s m q → GoesFirst m q text-too-long 0 → ⊥

@@ -131,7 +131,7 @@ count-one-more (suc n) f g (suc q) l a b same =
     go false true e h = absurd (false≢true (sym e))
     go false false e h = h
 
-count-within : (l : List ℕ) → count-marks l ≤ length l
+pub count-within : (l : List ℕ) → count-marks l ≤ length l
 unfolding count-marks
 count-within [] = omega arith
 count-within (b ∷ l) = go (eqb b 1) (count-within l)

@@ -51,6 +51,12 @@ pub mod OneVerdict
 pub mod OneCompatible
 pub mod OneLine
 pub mod LineAgreement
+pub mod Digits
+pub mod Split
+pub mod SmallNumbers
+pub mod LineLength
+pub mod OneWritten
+pub mod FirstBytes
 pub mod Means
 pub mod Facing
 pub mod FacingSteps

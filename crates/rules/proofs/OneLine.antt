@@ -11,10 +11,10 @@ use Rattle.rules.specs.Replies.{Areas, Reads, made, refused}
 use Rattle.table.specs.declared.Table.{Table}
 use Rattle.table.specs.declared.answers.Made.{Made}
 
-same-table : {s : List ℕ} {t u : Table} → Reads s (made t) → Reads s (made u) → t ≡ u
+pub same-table : {s : List ℕ} {t u : Table} → Reads s (made t) → Reads s (made u) → t ≡ u
 same-table a b = ap (λ (m : Made). m .table) (one-reading a b)
 
-not-refused : {s : List ℕ} {t : Table} {n p : ℕ} → Reads s (made t) → Reads s (refused n p) → ⊥
+pub not-refused : {s : List ℕ} {t : Table} {n p : ℕ} → Reads s (made t) → Reads s (refused n p) → ⊥
 not-refused a b = made-not-refused (one-reading a b)
 
 same-refusal : {s : List ℕ} {n p m q : ℕ} (which : ℕ) → Reads s (refused n p) → Reads s (refused m q) → refused-line n which p ≡ refused-line m which q

@@ -31,31 +31,45 @@ pub record Counts (q : Question) (new-text old-text : List ℕ) (n m : ℕ) : Ty
   pub new-count : n ≡ first .table .count
   pub old-count : m ≡ against q (second .table) .count
 
--- every area is long enough for n and m nodes
-pub record AllLong (n m : ℕ) (before : LineAreas) : Type 0 where
-  pub marks-long : turns-most * n * m ≤ length (before .lent .marks)
-  pub path-long : turns-most * n * m ≤ length (before .lent .path)
-  pub scratch-long : 4 * n * m ≤ length (before .lent .scratch)
-  pub line-long : line-size n m ≤ length (before .line)
+-- how long the four areas are: marks, path, scratch and line, in the area's own elements
+pub record Lengths : Type 0 where
+  pub marks : ℕ
+  pub path : ℕ
+  pub scratch : ℕ
+  pub line : ℕ
 
--- the least area that is too short for n and m nodes is this one
-pub data LeastShort (n m : ℕ) (before : LineAreas) : ℕ → Type 0 where
-  marks-short : length (before .lent .marks) < turns-most * n * m → LeastShort n m before 1
-  path-short :
-      turns-most * n * m ≤ length (before .lent .marks) → length (before .lent .path) < turns-most * n * m → LeastShort n m before 2
+abbrev pub lengths : LineAreas → Lengths
+lengths a =
+    record {
+      marks = length (a .lent .marks);
+      path = length (a .lent .path);
+      scratch = length (a .lent .scratch);
+      line = length (a .line);
+    }
+
+-- every area is long enough for n and m nodes
+pub record AllLong (n m : ℕ) (k : Lengths) : Type 0 where
+  pub marks-long : turns-most * n * m ≤ k .marks
+  pub path-long : turns-most * n * m ≤ k .path
+  pub scratch-long : 4 * n * m ≤ k .scratch
+  pub line-long : line-size n m ≤ k .line
+
+-- the least area that is too short for n and m nodes, by its position
+pub data LeastShort (n m : ℕ) (k : Lengths) : ℕ → Type 0 where
+  marks-short : k .marks < turns-most * n * m → LeastShort n m k 1
+  path-short : turns-most * n * m ≤ k .marks → k .path < turns-most * n * m → LeastShort n m k 2
   scratch-short :
-      turns-most * n * m ≤ length (before .lent .marks) → turns-most * n * m ≤ length (before .lent .path)
-      → length (before .lent .scratch) < 4 * n * m → LeastShort n m before 3
+      turns-most * n * m ≤ k .marks → turns-most * n * m ≤ k .path → k .scratch < 4 * n * m → LeastShort n m k 3
   line-short :
-      turns-most * n * m ≤ length (before .lent .marks) → turns-most * n * m ≤ length (before .lent .path)
-      → 4 * n * m ≤ length (before .lent .scratch) → length (before .line) < line-size n m → LeastShort n m before 4
+      turns-most * n * m ≤ k .marks → turns-most * n * m ≤ k .path → 4 * n * m ≤ k .scratch → k .line < line-size n m
+      → LeastShort n m k 4
 
 -- The reply: 11 for the least area, where nothing is written; else the line stands at the front of its area, and what is beyond stays.
 pub data WritesLine (q : Question) (new-text old-text : List ℕ) (before after : LineAreas) : Written → Type 0 where
   refuses :
-      {n m k : ℕ} → Counts q new-text old-text n m → LeastShort n m before k → after ≡ before
-      → WritesLine q new-text old-text before after (Refused area-too-short k)
+      {n m p : ℕ} → Counts q new-text old-text n m → LeastShort n m (lengths before) p → after ≡ before
+      → WritesLine q new-text old-text before after (Refused area-too-short p)
   writes :
-      {n m : ℕ} {l : List ℕ} → Counts q new-text old-text n m → AllLong n m before
+      {n m : ℕ} {l : List ℕ} → Counts q new-text old-text n m → AllLong n m (lengths before)
       → Answers q new-text old-text (before .lent) (after .lent) l → after .line ≡ l ++ drop (length l) (before .line)
       → WritesLine q new-text old-text before after (Line (length l))
