@@ -1,16 +1,17 @@
 -- Bytes put into the line's area, one behind the other.
 -- Assumes nothing.
-use mathlib.Core.List.{List, [], _∷_, _++_}
+use mathlib.Core.List.{List, [], _∷_}
 use mathlib.Core.Path.{_≡_}
 use Prim.Native.Nat.{ℕ, _+_, _≤_}
-use lib.ListN.{length, take, drop}
+use lib.ListN.{length}
+use lib.Seq.{sets}
 use Rattle.table.specs.declared.answers.Found.{Found}
 use Rattle.table.specs.declared.answers.Verdict.{Verdict}
 use Rattle.table.specs.declared.answers.Verdict.the-variants as the
 
--- the bytes w stand at place `at`, what was before and behind them stays, and r is the place behind them
+-- the bytes w are set at place `at` and behind it, and r is the place behind them
 pub record Adds (before : List ℕ) (at : ℕ) (w after : List ℕ) (r : ℕ) : Type 0 where
-  pub placed : after ≡ take at before ++ w ++ drop (at + length w) before
+  pub placed : after ≡ sets before at w
   pub behind : r ≡ at + length w
 
 -- "reason, detail, new node, old node, turn"

@@ -43,10 +43,10 @@ fn put_digits(k: usize, at: usize, line: &mut [u8]) -> usize
     requires { ⌜ at + length (digits (suc k) k) ≤ length (now line) ⌝ }
     ensures { λ r. ⌜ Adds (now (line .entry)) at (digits (suc k) k) (now (line .exit)) r ⌝ }
 {
-    let mut next = at;
-    if 10 <= k {
-        next = put_digits(k / 10, at, line);
+    if k < 10 {
+        return put_byte((ZERO + k) as u8, at, line);
     }
+    let next = put_digits(k / 10, at, line);
     put_byte((ZERO + k % 10) as u8, next, line)
 }
 

@@ -1,0 +1,234 @@
+-- From what is read and judged on the way to the reply: the laws that the functions of lib.rt cite, one for each reply.
+-- Assumes nothing.
+use mathlib.Core.Bool.{Bool, true, false, false≢true}
+use mathlib.Core.List.{List, _++_}
+use mathlib.Core.Path.{_≡_, refl, sym, ap, subst, _∙_}
+use Prim.Native.Nat.{ℕ, zero, suc, _+_, _*_, _<_, _≤_}
+use native.Mathlib.Nat.{mul-zero, zero-mul}
+use native.Mathlib.Omega.{arith}
+use lib.ListN.{length, drop, length-append}
+use Rattle.rules.specs.Numbers.{table-nodes-most, text-most}
+use Rattle.rules.specs.Pairs.{turns-most}
+use Rattle.rules.specs.Refusals.{area-too-short}
+use Rattle.rules.specs.Dual.{dual, dual-count, hands-over}
+use Rattle.rules.specs.Tables.{blank-table}
+use Rattle.rules.specs.Line.{Question, may-replace, is-compatible, against, Answers, first-refused, second-refused, yes, no, refused-line}
+use Rattle.rules.specs.Replies.{Areas, Reads, accepts, refuses, Replaces, NoRefusal, made, refused, dual-reply}
+use Rattle.rules.specs.Writing.{LineAreas, Counts, Lengths, lengths, AllLong, LeastShort, marks-short, path-short, scratch-short, line-short, WritesLine, refuses as refuses-area, writes, line-size}
+use Rattle.rules.specs.computed.Line.{verdict-line}
+use Rattle.rules.specs.computed.Reading.{reading}
+use Rattle.rules.proofs.Agreement.{reads-reading}
+use Rattle.rules.proofs.LineAgreement.{never-refused}
+use Rattle.rules.proofs.LineLength.{line-length}
+use Rattle.rules.proofs.ReadTables.{read-formed, read-few}
+use Rattle.rules.proofs.Remade.{dual-size}
+use Rattle.rules.proofs.Replies.{no-means}
+use Rattle.rules.proofs.SmallNumbers.{refusal-small}
+use Rattle.rules.proofs.TextDual.{text-dual-given, against-few, against-formed}
+use Rattle.table.specs.declared.Table.{Table}
+use Rattle.table.specs.declared.answers.Answer.the-variants as answer
+use Rattle.table.specs.declared.answers.Found.{Found}
+use Rattle.table.specs.declared.answers.Made.{Made}
+use Rattle.table.specs.declared.answers.Verdict.{Verdict}
+use Rattle.table.specs.declared.answers.Verdict.the-variants as the
+use Rattle.table.specs.declared.answers.Written.{Written}
+use Rattle.table.specs.declared.answers.Written.the-variants as written
+use Rattle.lines.specs.Adding.{Adds, StepsInPath}
+use Rattle.lines.specs.Asking.{asked, Held, not-read, held, Checked, all-long, short, WritesRefusal, too-short, written as refusal-written}
+use Rattle.lines.proofs.Adding.{at-front, front-length}
+
+-- an answer is one of the two
+apart : {n p : ℕ} → answer.Accepted ≡ answer.Refused n p → ⊥
+apart e = let z : _≡_ {A = ℕ} 0 1 = cc in omega arith
+
+-- what was read, by the answer beside the table
+pub read-accepted : {s : List ℕ} {m : Made} → Reads s m → m .answer ≡ answer.Accepted → Reads s (made (m .table))
+read-accepted (accepts w f) e = accepts w f
+read-accepted (refuses f g) e = absurd (apart (sym e))
+
+pub read-refused : {s : List ℕ} {m : Made} {n p : ℕ} → Reads s m → m .answer ≡ answer.Refused n p → Reads s (refused n p)
+read-refused (accepts w f) e = absurd (apart e)
+read-refused (refuses {n = k} {p = q} f g) e = let a = numbers e in rw (← a .0, ← a .1) (refuses f g)
+  where
+    numbers : {k q n p : ℕ} → answer.Refused k q ≡ answer.Refused n p → (k ≡ n) × (q ≡ p)
+    numbers e = (cc, cc)
+
+-- the table that new is held against
+module _ {s : List ℕ} {m : Made} (r : Reads s m) where
+  pub held-plain : (b : Bool) → b ≡ false → Held (asked b) s m
+  held-plain b e = rw e (go r)
+    where
+      go : {m : Made} → Reads s m → Held may-replace s m
+      go (accepts w f) = held (accepts w f)
+      go (refuses f g) = not-read (refuses f g)
+
+  pub held-refused : {n p : ℕ} (q : Question) → m .answer ≡ answer.Refused n p → Held q s m
+  held-refused q e = go r e
+    where
+      go : {m : Made} {n p : ℕ} → Reads s m → m .answer ≡ answer.Refused n p → Held q s m
+      go (accepts w f) e = absurd (apart e)
+      go (refuses f g) e = not-read (refuses f g)
+
+  pub held-dual : (b : Bool) → b ≡ true → m .answer ≡ answer.Accepted → {d : Made} → d ≡ dual-reply (m .table) s → Held (asked b) s d
+  held-dual b e a p = let R = read-accepted r a in rw (e, p, text-dual-given R) (held R)
+
+-- Both texts were read: x is the table of the new one, and y is what it is held against.
+pub record Both (q : Question) (new-text old-text : List ℕ) (x y : Table) : Type 0 where
+  pub other : Table
+  pub new-read : Reads new-text (made x)
+  pub old-read : Reads old-text (made other)
+  pub against-it : y ≡ against q other
+
+pub held-accepted :
+    {q : Question} {new-text old-text : List ℕ} {first second : Made} → Reads new-text first → first .answer ≡ answer.Accepted
+    → Held q old-text second → second .answer ≡ answer.Accepted → Both q new-text old-text (first .table) (second .table)
+held-accepted r a (not-read f) e = absurd (apart (sym e))
+held-accepted r a (held {t} R) e = record { other = t; new-read = read-accepted r a; old-read = R; against-it = refl }
+
+pub held-not-read :
+    {q : Question} {s : List ℕ} {m : Made} {n p : ℕ} → Held q s m → m .answer ≡ answer.Refused n p → Reads s (refused n p)
+held-not-read (not-read f) e = read-refused f e
+held-not-read (held R) e = absurd (apart e)
+
+-- a number and a place are small enough for the line's area
+pub refusal-fits : {s : List ℕ} {n p : ℕ} → Reads s (refused n p) → (n < 10) × (p ≤ text-most)
+refusal-fits r = refusal-small r
+
+-- The reply for a refused text. It has no nodes, so that nothing is asked of the areas but that the line has room.
+module _ {number which place : ℕ} {before after : List ℕ} where
+  pub refusal-short : length before < line-size 0 0 → after ≡ before → WritesRefusal number which place before after (written.Refused area-too-short 4)
+  refusal-short l e = too-short l e
+
+  pub refusal-put :
+      {r : ℕ} → line-size 0 0 ≤ length before → length (refused-line number which place) ≤ length before
+      → Adds before 0 (refused-line number which place) after r → WritesRefusal number which place before after (written.Line r)
+  refusal-put l m A = rw (front-length A) (refusal-written l (at-front A m))
+
+none-turned : (b : Bool) → dual-count b 0 ≡ 0
+none-turned true = refl
+none-turned false = refl
+
+no-pairs-new : (k m : ℕ) → k * 0 * m ≡ 0
+no-pairs-new k m = let e : k * 0 ≡ 0 = mul-zero k in rw e (zero-mul m)
+
+module _ (before : LineAreas) {n m : ℕ} (none : (k : ℕ) → k * n * m ≡ 0) where
+  nothing-short : length (before .line) < line-size 0 0 → LeastShort n m (lengths before) 4
+  nothing-short l = line-short (omega (arith, none 2)) (omega (arith, none 2)) (omega (arith, none 4)) (omega (arith, none 6, l))
+
+  nothing-long : line-size 0 0 ≤ length (before .line) → AllLong n m (lengths before)
+  nothing-long l =
+      record {
+        marks-long = omega (arith, none 2);
+        path-long = omega (arith, none 2);
+        scratch-long = omega (arith, none 4);
+        line-long = omega (arith, none 6, l);
+      }
+
+  refused-reply :
+      {q : Question} {new-text old-text : List ℕ} {after : LineAreas} {number which place : ℕ} {r : Written} → Counts q new-text old-text n m
+      → after .lent ≡ before .lent → Answers q new-text old-text (before .lent) (after .lent) (refused-line number which place)
+      → WritesRefusal number which place (before .line) (after .line) r → WritesLine q new-text old-text before after r
+  refused-reply C same A (too-short l e) = refuses-area C (nothing-short l) (λ i. record { lent = same i; line = e i })
+  refused-reply C same A (refusal-written l e) = writes C (nothing-long l) A e
+
+module _ {q : Question} {new-text old-text : List ℕ} {before after : LineAreas} {n p : ℕ} {r : Written} (same : after .lent ≡ before .lent) where
+  pub first-reply :
+      Reads new-text (refused n p) → WritesRefusal n 1 p (before .line) (after .line) r → WritesLine q new-text old-text before after r
+  first-reply R W =
+      refused-reply before (λ k. no-pairs-new k (against q (reading old-text .table) .count))
+      (record {
+        first = refused n p;
+        second = reading old-text;
+        first-read = R;
+        second-read = reads-reading old-text;
+        new-count = refl;
+        old-count = refl;
+      })
+      same (first-refused R same) W
+
+  pub second-reply :
+      {new : Table} → Reads new-text (made new) → Reads old-text (refused n p) → WritesRefusal n 2 p (before .line) (after .line) r
+      → WritesLine q new-text old-text before after r
+  second-reply {new} N R W =
+      refused-reply before (λ k. mul-zero (k * new .count))
+      (record {
+        first = made new;
+        second = refused n p;
+        first-read = N;
+        second-read = R;
+        new-count = refl;
+        old-count = sym (no-nodes q);
+      })
+      same (second-refused N R same) W
+    where
+      no-nodes : (q : Question) → against q (refused n p .table) .count ≡ 0
+      no-nodes may-replace = refl
+      no-nodes is-compatible = dual-size blank-table refl ∙ none-turned (hands-over blank-table)
+
+-- The reply where both were read.
+module _ {q : Question} {new-text old-text : List ℕ} {x y : Table} (B : Both q new-text old-text x y) where
+  counts : Counts q new-text old-text (x .count) (y .count)
+  counts =
+      record {
+        first = made x;
+        second = made (B .other);
+        first-read = B .new-read;
+        second-read = B .old-read;
+        new-count = refl;
+        old-count = ap (λ (t : Table). t .count) (B .against-it);
+      }
+
+  pub both-few : (x .count ≤ table-nodes-most) × (y .count ≤ table-nodes-most)
+  both-few = (omega (arith, read-few (B .new-read)), rw (B .against-it) (against-few (B .old-read) q))
+
+  pub short-reply :
+      {before : LineAreas} {p : ℕ} → Checked (x .count) (y .count) (lengths before) p → (p ≡ 0 → ⊥)
+      → WritesLine q new-text old-text before before (written.Refused area-too-short p)
+  short-reply (all-long l) f = absurd (f refl)
+  short-reply (short l) f = refuses-area counts l refl
+
+  -- every area is long enough, and a verdict was asked
+  module _ (before : LineAreas) (after : Areas) {p : ℕ} (K : Checked (x .count) (y .count) (lengths before) p) (z : p ≡ 0) {v : Verdict} (R : Replaces x new-text y old-text (before .lent) after v) where
+    long : AllLong (x .count) (y .count) (lengths before)
+    long = go K z
+      where
+        go : {p : ℕ} → Checked (x .count) (y .count) (lengths before) p → p ≡ 0 → AllLong (x .count) (y .count) (lengths before)
+        go (all-long l) e = l
+        go (short (marks-short a)) e = absurd (omega arith)
+        go (short (path-short a b)) e = absurd (omega arith)
+        go (short (scratch-short a b c)) e = absurd (omega arith)
+        go (short (line-short a b c d)) e = absurd (omega arith)
+
+    no-refusal : NoRefusal x new-text y old-text (before .lent)
+    no-refusal =
+        record {
+          new-formed = read-formed (B .new-read);
+          old-formed = rw (B .against-it) (against-formed (B .old-read) q);
+          marks-long = long .marks-long;
+          path-long = long .path-long;
+          scratch-long = long .scratch-long;
+        }
+
+    answers : Answers q new-text old-text (before .lent) after (verdict-line v (after .path))
+    answers = go v R
+      where
+        go : (v : Verdict) → Replaces x new-text y old-text (before .lent) after v → Answers q new-text old-text (before .lent) after (verdict-line v (after .path))
+        go (the.Yes c) R = yes (B .new-read) (B .old-read) (rw (B .against-it) at R)
+        go (the.No f) R = no (B .new-read) (B .old-read) (rw (B .against-it) at R)
+        go (the.Refused n p) R = absurd (never-refused no-refusal R)
+
+    pub verdict-fits : StepsInPath v (after .path) × (length (verdict-line v (after .path)) ≤ length (before .line))
+    verdict-fits = (go v R, omega (arith, line-length counts answers, long .line-long))
+      where
+        go : (v : Verdict) → Replaces x new-text y old-text (before .lent) after v → StepsInPath v (after .path)
+        go (the.Yes c) R = tt
+        go (the.No f) R =
+            let X = no-means R .1 in
+            let e : f .steps ≡ length (X .run) = ap (λ (g : Found). g .steps) (X .returned) in
+            omega (arith, e, ap length (X .path), length-append (X .run) (drop (length (X .run)) (before .lent .path)))
+        go (the.Refused n p) R = tt
+
+    pub verdict-reply :
+        {line : List ℕ} {r : ℕ} → Adds (before .line) 0 (verdict-line v (after .path)) line r
+        → WritesLine q new-text old-text before (record { lent = after; line = line }) (written.Line r)
+    verdict-reply A = rw (front-length A) (writes counts long answers (at-front A (verdict-fits .1)))

@@ -1,0 +1,5 @@
+pub mod Adding
+pub mod Room
+pub mod Sizes
+pub mod Asking
+pub mod Splitting
