@@ -1,6 +1,6 @@
 // Standard input, read to its end. A failed read is told from the end of the input. What does not fit is read all the same and dropped, so
 // that the writer of a pipe is not cut off.
-ghost use Prim.Native.Nat.{_≤_};
+ghost use Prim.Native.Nat.{_-_, _≤_};
 ghost use lib.ListN.{length};
 ghost use Rattle.input.specs.Coming.{Came, Held};
 
@@ -17,25 +17,21 @@ pub enum Input {
     Failed,
 }
 
-// What a read answered. One that a signal interrupted brought nothing, and is made again.
-fn came(got: isize, room: usize) -> Turn
-    ensures { λ r. ⌜ Came room r ⌝ }
+// What a read answered, and how many bytes that is. One that a signal interrupted brought nothing, and is made again.
+fn came(got: isize, n: usize) -> Turn
+    ensures { λ r. ⌜ Came n r ⌝ }
 {
+    if got > 0 {
+        return Turn::More(n);
+    }
     if got == 0 {
         return Turn::Ended;
     }
-    if got < 0 {
-        if os::errno() == libc::EINTR {
-            return Turn::More(0);
-        }
-        os::fail(b"reading standard input");
-        return Turn::Failed;
+    if os::errno() == libc::EINTR {
+        return Turn::More(0);
     }
-    let n = got as usize;
-    if room < n {
-        return Turn::More(room);
-    }
-    Turn::More(n)
+    os::fail(b"reading standard input");
+    Turn::Failed
 }
 
 // One read into the buffer, from `at` on.
@@ -43,14 +39,17 @@ fn read_behind(buf: &mut [u8], at: usize) -> Turn
     requires { ⌜ at ≤ length (now buf) ⌝ }
     ensures { λ r. ⌜ Came (length (now (buf .entry)) - at) r ⌝ }
 {
-    let room = buf.len() - at;
-    came(libc::read(libc::STDIN_FILENO, &mut buf[at..]), room)
+    let got = libc::read(libc::STDIN_FILENO, &mut buf[at..]);
+    let n = io::count(got, &buf[at..]);
+    came(got, n)
 }
 
 // One read whose bytes are dropped.
 fn read_and_drop() -> Turn {
     let mut space = io::large_buffer();
-    came(libc::read(libc::STDIN_FILENO, &mut space), space.len())
+    let got = libc::read(libc::STDIN_FILENO, &mut space);
+    let n = io::count(got, &space);
+    came(got, n)
 }
 
 // Reads the rest of the input, of which `held` bytes are kept. A proved loop has to end, and nothing says that an input does: so the loop

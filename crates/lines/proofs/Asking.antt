@@ -10,8 +10,6 @@ use lib.ListN.{length, drop, length-append}
 use Rattle.rules.specs.Numbers.{table-nodes-most, text-most}
 use Rattle.rules.specs.Pairs.{turns-most}
 use Rattle.rules.specs.Refusals.{area-too-short}
-use Rattle.rules.specs.Dual.{dual, dual-count, hands-over}
-use Rattle.rules.specs.Tables.{blank-table}
 use Rattle.rules.specs.Line.{Question, may-replace, is-compatible, against, Answers, first-refused, second-refused, yes, no, refused-line}
 use Rattle.rules.specs.Replies.{Areas, Reads, accepts, refuses, Replaces, NoRefusal, made, refused, dual-reply}
 use Rattle.rules.specs.Writing.{LineAreas, Counts, Lengths, lengths, AllLong, LeastShort, marks-short, path-short, scratch-short, line-short, WritesLine, refuses as refuses-area, writes, line-size}
@@ -21,10 +19,8 @@ use Rattle.rules.proofs.Agreement.{reads-reading}
 use Rattle.rules.proofs.LineAgreement.{never-refused}
 use Rattle.rules.proofs.LineLength.{line-length}
 use Rattle.rules.proofs.ReadTables.{read-formed, read-few}
-use Rattle.rules.proofs.Remade.{dual-size}
 use Rattle.rules.proofs.Replies.{no-means}
-use Rattle.rules.proofs.SmallNumbers.{refusal-small}
-use Rattle.rules.proofs.TextDual.{text-dual-given, against-few, against-formed}
+use Rattle.rules.proofs.TextDual.{blank-against, text-dual-given, against-few, against-formed}
 use Rattle.table.specs.declared.Table.{Table}
 use Rattle.table.specs.declared.answers.Answer.the-variants as answer
 use Rattle.table.specs.declared.answers.Found.{Found}
@@ -90,23 +86,12 @@ pub held-not-read :
 held-not-read (not-read f) e = read-refused f e
 held-not-read (held R) e = absurd (apart e)
 
--- a number and a place are small enough for the line's area
-pub refusal-fits : {s : List ℕ} {n p : ℕ} → Reads s (refused n p) → (n < 10) × (p ≤ text-most)
-refusal-fits r = refusal-small r
-
 -- The reply for a refused text. It has no nodes, so that nothing is asked of the areas but that the line has room.
 module _ {number which place : ℕ} {before after : List ℕ} where
-  pub refusal-short : length before < line-size 0 0 → after ≡ before → WritesRefusal number which place before after (written.Refused area-too-short 4)
-  refusal-short l e = too-short l e
-
   pub refusal-put :
       {r : ℕ} → line-size 0 0 ≤ length before → length (refused-line number which place) ≤ length before
       → Adds before 0 (refused-line number which place) after r → WritesRefusal number which place before after (written.Line r)
   refusal-put l m A = rw (front-length A) (refusal-written l (at-front A m))
-
-none-turned : (b : Bool) → dual-count b 0 ≡ 0
-none-turned true = refl
-none-turned false = refl
 
 no-pairs-new : (k m : ℕ) → k * 0 * m ≡ 0
 no-pairs-new k m = let e : k * 0 ≡ 0 = mul-zero k in rw e (zero-mul m)
@@ -157,13 +142,9 @@ module _ {q : Question} {new-text old-text : List ℕ} {before after : LineAreas
         first-read = N;
         second-read = R;
         new-count = refl;
-        old-count = sym (no-nodes q);
+        old-count = sym (blank-against q);
       })
       same (second-refused N R same) W
-    where
-      no-nodes : (q : Question) → against q (refused n p .table) .count ≡ 0
-      no-nodes may-replace = refl
-      no-nodes is-compatible = dual-size blank-table refl ∙ none-turned (hands-over blank-table)
 
 -- The reply where both were read.
 module _ {q : Question} {new-text old-text : List ℕ} {x y : Table} (B : Both q new-text old-text x y) where

@@ -56,6 +56,7 @@ pub mod Split
 pub mod SmallNumbers
 pub mod LineLength
 pub mod OneWritten
+pub mod OwnAreas
 pub mod FirstBytes
 pub mod Means
 pub mod Facing

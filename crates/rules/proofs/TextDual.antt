@@ -2,7 +2,7 @@
 -- Assumes nothing.
 use mathlib.Core.Bool.{Bool, true, false}
 use mathlib.Core.List.{List}
-use mathlib.Core.Path.{_≡_, refl}
+use mathlib.Core.Path.{_≡_, refl, _∙_}
 use Prim.Native.Nat.{ℕ, _≤_, _+_}
 use native.Mathlib.Omega.{arith}
 use Rattle.rules.proofs.DualFormed.{dual-formed}
@@ -10,6 +10,7 @@ use Rattle.rules.proofs.Means.{dual-given}
 use Rattle.rules.proofs.ReadTables.{read-formed, read-few}
 use Rattle.rules.proofs.Remade.{dual-size}
 use Rattle.rules.specs.Numbers.{table-nodes-most}
+use Rattle.rules.specs.Tables.{blank-table}
 use Rattle.rules.specs.Dual.{dual, dual-count, hands-over}
 use Rattle.rules.specs.Formed.{well-formed}
 use Rattle.rules.specs.Line.{Question, may-replace, is-compatible, against}
@@ -19,6 +20,15 @@ use Rattle.table.specs.declared.Table.{Table}
 twice-most : (b : Bool) (n : ℕ) → dual-count b n ≤ n + n
 twice-most true n = omega arith
 twice-most false n = omega arith
+
+-- beside a refusal there are no nodes, turned round or not
+pub blank-against : (q : Question) → against q blank-table .count ≡ 0
+blank-against may-replace = refl
+blank-against is-compatible = dual-size blank-table refl ∙ none (hands-over blank-table)
+  where
+    none : (b : Bool) → dual-count b 0 ≡ 0
+    none true = refl
+    none false = refl
 
 module _ {s : List ℕ} {t : Table} (r : Reads s (made t)) where
   count-few : dual-count (hands-over t) (t .count) ≤ table-nodes-most

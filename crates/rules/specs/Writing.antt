@@ -8,7 +8,7 @@ use lib.ListN.{length, drop}
 use Rattle.rules.specs.Pairs.{turns-most}
 use Rattle.rules.specs.Refusals.{area-too-short}
 use Rattle.rules.specs.Replies.{Areas, Reads}
-use Rattle.rules.specs.Line.{Question, against, Answers}
+use Rattle.rules.specs.Line.{Question, against, Answers, Prints}
 use Rattle.table.specs.declared.answers.Made.{Made}
 use Rattle.table.specs.declared.answers.Written.{Written}
 use Rattle.table.specs.declared.answers.Written.the-variants.{Line, Refused}
@@ -73,3 +73,11 @@ pub data WritesLine (q : Question) (new-text old-text : List ℕ) (before after 
       {n m : ℕ} {l : List ℕ} → Counts q new-text old-text n m → AllLong n m (lengths before)
       → Answers q new-text old-text (before .lent) (after .lent) l → after .line ≡ l ++ drop (length l) (before .line)
       → WritesLine q new-text old-text before after (Line (length l))
+
+-- The reply of what lends its own marks, path and scratch: for an input the area then begins with the printed line, of r bytes, and what
+-- is beyond stays.
+pub record PrintsInto (q : Question) (input before after : List ℕ) (r : ℕ) : Type 0 where
+  pub printed : List ℕ
+  pub prints : Prints q input printed
+  pub long : r ≡ length printed
+  pub holds : after ≡ printed ++ drop (length printed) before
