@@ -3,3 +3,4 @@ pub mod Room
 pub mod Sizes
 pub mod Asking
 pub mod Splitting
+pub mod Printed
