@@ -5,9 +5,9 @@ use crate::show::show;
 use crate::show::show_lines;
 use crate::show::show_places;
 use crate::texts::Text;
-use crate::texts::front;
 use crate::texts::show_all;
 use crate::texts::show_repeated;
+use showing::parts::front;
 
 // A place that no text has: where a loop changes a text, it stands for the place of the change.
 const HERE: usize = 5000;

@@ -1,8 +1,9 @@
 // The lines of the cases.
 use reader::read;
+use showing::parts::between;
+use showing::parts::find;
 use showing::print_made;
 use table::answers::Answer;
-ghost use Prim.Native.Nat.{_≤_};
 
 // A refusal's number and place; number 0 stands for a text that is taken.
 pub struct Refusal {
@@ -25,31 +26,6 @@ pub fn show(name: &[u8], text: &[u8]) {
 // The line of a case, with the place of each label (`@`).
 pub fn show_places(name: &[u8], text: &[u8]) {
     print_line(name, text, true);
-}
-
-// The first b from `from` on; the end where there is none.
-fn find(s: &[u8], b: u8, from: usize) -> usize
-    ensures { λ r. ⌜ from ≤ r ⌝ }
-{
-    let mut i = from;
-    while i < s.len() {
-        if s[i] == b {
-            return i;
-        }
-        i += 1;
-    }
-    i
-}
-
-// The bytes from a to e; none where there are no such.
-fn between(s: &[u8], a: usize, e: usize) -> &[u8] {
-    if s.len() < e {
-        return &s[0..0];
-    }
-    if e < a {
-        return &s[0..0];
-    }
-    &s[a..e]
 }
 
 // A name, a colon, a blank, and a text.

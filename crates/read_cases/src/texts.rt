@@ -3,6 +3,7 @@ use crate::show::Refusal;
 use crate::show::refusal_of;
 use crate::show::show;
 use crate::show::show_places;
+use showing::parts::front;
 ghost use Rattle.read_cases.specs.Room.{Whole};
 
 // More than the longest text here.
@@ -20,14 +21,6 @@ fn first_letter(k: usize) -> u8 {
 
 fn second_letter(k: usize) -> u8 {
     b'a' + (k % 26) as u8
-}
-
-// The first len bytes; all where there are fewer.
-pub fn front(s: &[u8], len: usize) -> &[u8] {
-    if s.len() < len {
-        return s;
-    }
-    &s[0..len]
 }
 
 impl Text {

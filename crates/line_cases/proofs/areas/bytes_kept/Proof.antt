@@ -1,19 +1,20 @@
--- `read_cases::show::find` finds nothing before where it begins.
+-- `line_cases::areas::bytes_kept` is safe and ends.
 -- Assumes nothing.
 use borrow.Author.Needs.{needs}
-use Prim.Native.Nat.{_≤_, _-_}
+use native.Mathlib.Omega.{arith}
+use Prim.Native.Nat.{_-_}
 use lib.ListN.{length}
-use Rattle.read_cases.proofs.show.find.Statement.{statement}
-use Rattle.read_cases.proofs.show.find.Tie as tie
+use Rattle.line_cases.proofs.areas.bytes_kept.Statement.{statement}
+use Rattle.line_cases.proofs.areas.bytes_kept.Tie as tie
 
 abbrev Inv-loop : tie.InvT-loop
-Inv-loop s b from i₀ i = from ≤ i
+Inv-loop s from i₀ i = Unit {0}
 
 abbrev μ-loop : tie.MeasureT-loop
-μ-loop s b from i₀ i = length s - i
+μ-loop s from i₀ i = length s - i
 
 loop-holds : tie.Need-loop-holds Inv-loop μ-loop
-loop-holds c = search needs
+loop-holds c = tt
 
 shared-slice-read-if1 : tie.Need-shared-slice-read-if1 Inv-loop μ-loop
 shared-slice-read-if1 c = search needs
@@ -25,24 +26,13 @@ add-i : tie.Need-add-i Inv-loop μ-loop
 add-i c = search needs
 
 loop-less : tie.Need-loop-less Inv-loop μ-loop
-loop-less c = search needs
+loop-less c = omega (arith, c .before .before .loop-test .taken)
 
 loop-again : tie.Need-loop-again Inv-loop μ-loop
-loop-again c = search needs
+loop-again c = tt
 
 returns-2 : tie.Need-returns-2 Inv-loop μ-loop
 returns-2 c = search needs
 
-pub find-spec : {M : Type 1} → statement M
-find-spec =
-    tie.close
-    (tie.spec
-    Inv-loop
-    μ-loop
-    loop-holds
-    shared-slice-read-if1
-    returns
-    add-i
-    loop-less
-    loop-again
-    returns-2)
+pub bytes-kept-spec : {M : Type 1} → statement M
+bytes-kept-spec = tie.close (tie.spec Inv-loop μ-loop loop-holds shared-slice-read-if1 returns add-i loop-less loop-again returns-2)
