@@ -29,7 +29,7 @@ take() { # FILE
 }
 
 build() {
-    printf '%s: %s\n' "$name" "target/bin/$name is not built yet. The first build proves everything, which takes about @@TIME@@ minutes." >&2
+    printf '%s: %s\n' "$name" "target/bin/$name is not built yet. The first build proves everything, which takes about four minutes." >&2
     # What rt has built and then found wanting is not kept: the next call would ask it.
     (cd -- "$root" && rt check "$name") </dev/null >&2 || { rm -f -- "$program"; fail "rt check $name failed, so there is no program to ask"; }
     [[ -x $program ]] || fail "rt check $name has not built target/bin/$name"
