@@ -1,11 +1,11 @@
--- `verdict::main` is safe and ends: no more is held than the buffer has.
+-- `printer::answer_input` is safe and ends: no more is held than the buffer has.
 -- Assumes nothing.
 use borrow.Author.Needs.{needs}
 use mathlib.Core.Path.{sym}
 use native.Mathlib.Omega.{arith}
 use lib.Seq.{length-take-le}
-use Rattle.verdict.proofs.main.Statement.{statement}
-use Rattle.verdict.proofs.main.Tie as tie
+use Rattle.printer.proofs.answer_input.Statement.{statement}
+use Rattle.printer.proofs.answer_input.Tie as tie
 
 slice-aggregate-read-input : tie.Need-slice-aggregate-read-input
 slice-aggregate-read-input c = search needs
@@ -34,5 +34,5 @@ returns c = search needs
 returns-2 : tie.Need-returns-2
 returns-2 c = search needs
 
-pub main-spec : {M : Type 1} → statement M
-main-spec = tie.close (tie.spec slice-aggregate-read-input read-input-requires enum-known-input array-share-prefix-buf slice-aggregate-print-line print-line-requires enum-told returns returns-2)
+pub answer-input-spec : {M : Type 1} → statement M
+answer-input-spec = tie.close (tie.spec slice-aggregate-read-input read-input-requires enum-known-input array-share-prefix-buf slice-aggregate-print-line print-line-requires enum-told returns returns-2)

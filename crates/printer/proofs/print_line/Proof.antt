@@ -1,9 +1,9 @@
--- `verdict::print_line` is safe and ends: the line lies within its area.
+-- `printer::print_line` is safe and ends: the line lies within its area.
 -- Assumes nothing.
 use borrow.Author.Needs.{needs}
 use Rattle.lines.proofs.Printed.{printed-within, printed-part}
-use Rattle.verdict.proofs.print_line.Statement.{statement}
-use Rattle.verdict.proofs.print_line.Tie as tie
+use Rattle.printer.proofs.print_line.Statement.{statement}
+use Rattle.printer.proofs.print_line.Tie as tie
 
 slice-aggregate-line-for : tie.Need-slice-aggregate-line-for
 slice-aggregate-line-for c = search needs
