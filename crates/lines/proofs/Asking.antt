@@ -1,18 +1,17 @@
 -- From what is read and judged on the way to the reply: the laws that the functions of lib.rt cite, one for each reply.
 -- Assumes nothing.
-use mathlib.Core.Bool.{Bool, true, false, false≢true}
-use mathlib.Core.List.{List, _++_}
-use mathlib.Core.Path.{_≡_, refl, sym, ap, subst, _∙_}
-use Prim.Native.Nat.{ℕ, zero, suc, _+_, _*_, _<_, _≤_}
+use mathlib.Core.Bool.{Bool, true, false}
+use mathlib.Core.List.{List}
+use mathlib.Core.Path.{_≡_, refl, sym, ap}
+use Prim.Native.Nat.{ℕ, _*_, _<_, _≤_}
 use native.Mathlib.Nat.{mul-zero, zero-mul}
 use native.Mathlib.Omega.{arith}
 use lib.ListN.{length, drop, length-append}
-use Rattle.rules.specs.Numbers.{table-nodes-most, text-most}
-use Rattle.rules.specs.Pairs.{turns-most}
+use Rattle.rules.specs.Numbers.{table-nodes-most}
 use Rattle.rules.specs.Refusals.{area-too-short}
-use Rattle.rules.specs.Line.{Question, may-replace, is-compatible, against, Answers, first-refused, second-refused, yes, no, refused-line}
+use Rattle.rules.specs.Line.{Question, may-replace, against, Answers, first-refused, second-refused, yes, no, refused-line}
 use Rattle.rules.specs.Replies.{Areas, Reads, accepts, refuses, Replaces, NoRefusal, made, refused, dual-reply}
-use Rattle.rules.specs.Writing.{LineAreas, Counts, Lengths, lengths, AllLong, LeastShort, marks-short, path-short, scratch-short, line-short, WritesLine, refuses as refuses-area, writes, line-size}
+use Rattle.rules.specs.Writing.{LineAreas, Counts, lengths, AllLong, LeastShort, marks-short, path-short, scratch-short, line-short, WritesLine, refuses as refuses-area, writes, line-size}
 use Rattle.rules.specs.computed.Line.{verdict-line}
 use Rattle.rules.specs.computed.Reading.{reading}
 use Rattle.rules.proofs.Agreement.{reads-reading}

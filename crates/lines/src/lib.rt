@@ -6,6 +6,7 @@ use crate::writing::put_refused;
 use crate::writing::put_verdict;
 use dual::dual;
 use reader::read;
+use replace::AREA_TOO_SHORT;
 use replace::may_replace;
 use table::answers::Answer;
 use table::answers::Made;
@@ -16,9 +17,6 @@ ghost use Rattle.rules.specs.Numbers.{table-nodes-most, text-most};
 ghost use Rattle.rules.specs.Line.{may-replace, is-compatible, first-text, second-text};
 ghost use Rattle.rules.specs.Writing.{WritesLine};
 ghost use Rattle.lines.specs.Asking.{asked, Held, Checked, WritesRefusal, SplitsAt};
-
-// The column "No." of document 01's refusal list.
-const AREA_TOO_SHORT: usize = 11;
 
 // The line's area, in bytes: 6 × n × m + 18.
 const LINE_LEAST: usize = 18;

@@ -8,7 +8,7 @@ use native.Mathlib.Omega.{arith}
 use Rattle.rules.specs.Numbers.{text-nodes-most, table-nodes-most}
 use Rattle.rules.specs.Line.{Question, may-replace, is-compatible, first-text, second-text}
 use Rattle.rules.specs.Writing.{LineAreas, Lengths, lengths, AllLong, WritesLine, PrintsInto}
-use Rattle.rules.proofs.OwnAreas.{against-most, own-enough, printed-into}
+use Rattle.rules.proofs.OwnAreas.{against-most, fewer-long, own-enough, printed-into}
 use Rattle.lines.specs.Asking.{asked}
 use Rattle.table.specs.declared.answers.Written.{Written}
 use Rattle.table.specs.declared.answers.Written.the-variants.{Line, Refused}
@@ -17,13 +17,7 @@ use Rattle.printer.specs.Lengths.{LengthOf}
 -- what is enough for a dual is enough for a text
 enough : {k : Lengths} (q : Question) → AllLong text-nodes-most table-nodes-most k → AllLong text-nodes-most (against-most q) k
 enough is-compatible L = L
-enough may-replace L =
-    record {
-      marks-long = omega (arith, L .marks-long);
-      path-long = omega (arith, L .path-long);
-      scratch-long = omega (arith, L .scratch-long);
-      line-long = omega (arith, L .line-long);
-    }
+enough may-replace L = fewer-long (omega arith) (omega arith) L
 
 pub prints-into :
     {q : Question} (input : List ℕ) {before after : LineAreas} {r : ℕ} (w : Written)

@@ -36,7 +36,7 @@ ghost use Rattle.replace.specs.Taking.{Landing, LandsAt, Ready, Leading,
 ghost use Rattle.replace.specs.State.{EndedAt, found-at, Concludable, Concludes};
 
 // The column "No." of document 01's refusal list.
-const AREA_TOO_SHORT: usize = 11;
+pub const AREA_TOO_SHORT: usize = 11;
 
 // The node counts of the two tables.
 struct Sizes {

@@ -76,15 +76,6 @@ few (suc f) (suc (suc n)) k d = go (decLt k 10) (few f (suc n) (k / 10) d)
 pub digits-few : (n k : ℕ) → Digits n k → length (digits (suc k) k) ≤ n
 digits-few n k d = few (suc k) n k d
 
-pub digits-some : (k : ℕ) → 0 < length (digits (suc k) k)
-digits-some k = go (decLt k 10)
-  where
-    go : Dec (k < 10) → 0 < length (digits (suc k) k)
-    go (yes l) = rw (digits-one k l) (omega arith)
-    go (no l) =
-        rw (digits-more k (omega arith))
-        (omega (arith, length-append (digits (suc (k / 10)) (k / 10)) ((48 + k % 10) ∷ [])))
-
 -- a space before them
 pub field-few : (n k : ℕ) → Digits n k → length (field k) ≤ suc n
 unfolding field

@@ -13,7 +13,7 @@ use Rattle.rules.specs.Numbers.{text-nodes-most, table-nodes-most}
 use Rattle.rules.specs.Pairs.{turns-most}
 use Rattle.rules.specs.Replies.{Reads, accepts, refuses}
 use Rattle.rules.specs.Line.{Question, may-replace, is-compatible, against, first-text, second-text}
-use Rattle.rules.specs.Writing.{LineAreas, Counts, Lengths, lengths, AllLong, WritesLine, refuses as refuses-area, writes, PrintsInto}
+use Rattle.rules.specs.Writing.{LineAreas, Lengths, lengths, AllLong, WritesLine, refuses as refuses-area, writes, PrintsInto}
 use Rattle.table.specs.declared.answers.Made.{Made}
 use Rattle.table.specs.declared.answers.Written.the-variants.{Line, Refused}
 
@@ -32,7 +32,7 @@ old-few is-compatible (accepts w f) = against-few (accepts w f) is-compatible
 old-few is-compatible (refuses f g) = omega (arith, blank-against is-compatible)
 
 -- areas for so many nodes are long enough for fewer
-fewer-long : {n m n′ m′ : ℕ} {k : Lengths} → n′ ≤ n → m′ ≤ m → AllLong n m k → AllLong n′ m′ k
+pub fewer-long : {n m n′ m′ : ℕ} {k : Lengths} → n′ ≤ n → m′ ≤ m → AllLong n m k → AllLong n′ m′ k
 fewer-long {n} {m} {n′} {m′} a b L =
     let two : turns-most * n′ * m′ ≤ turns-most * n * m = mul-le-mul (mul-le-mul (omega arith) a) b in
     let four : 4 * n′ * m′ ≤ 4 * n * m = mul-le-mul (mul-le-mul (omega arith) a) b in

@@ -14,7 +14,7 @@ use Rattle.rules.proofs.Entries.{pair-of, run-of, reached-where, unreac
 use Rattle.rules.proofs.Formed.{WellFormed, formed}
 use Rattle.rules.proofs.Runs.{leads-snoc, starts-within}
 use Rattle.rules.proofs.Steps.{Within, step-within}
-use Rattle.rules.specs.Pairs.{Pair, Step, starts}
+use Rattle.rules.specs.Pairs.{Pair, starts}
 use Rattle.rules.specs.Runs.{Leads, Run}
 use Rattle.rules.specs.Replies.{Areas, NoRefusal, SaysNo, pair-count, count-marks}
 use Rattle.rules.specs.computed.Verdict.{Entry, no-entry, reached, marks-of}
