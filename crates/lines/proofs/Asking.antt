@@ -9,17 +9,17 @@ use native.Mathlib.Omega.{arith}
 use lib.ListN.{length, drop, length-append}
 use Rattle.rules.specs.Numbers.{table-nodes-most}
 use Rattle.rules.specs.Refusals.{area-too-short}
-use Rattle.rules.specs.Line.{Question, may-replace, against, Answers, first-refused, second-refused, yes, no, refused-line}
+use Rattle.rules.specs.Line.{Question, against, Answers, first-refused, second-refused, refused-line}
 use Rattle.rules.specs.Replies.{Areas, Reads, accepts, refuses, Replaces, NoRefusal, made, refused, dual-reply}
 use Rattle.rules.specs.Writing.{LineAreas, Counts, lengths, AllLong, LeastShort, marks-short, path-short, scratch-short, line-short, WritesLine, refuses as refuses-area, writes, line-size}
 use Rattle.rules.specs.computed.Line.{verdict-line}
 use Rattle.rules.specs.computed.Reading.{reading}
 use Rattle.rules.proofs.Agreement.{reads-reading}
-use Rattle.rules.proofs.LineAgreement.{never-refused}
+use Rattle.rules.proofs.LineAgreement.{texts-not-refused, verdict-answers}
 use Rattle.rules.proofs.LineLength.{line-length}
-use Rattle.rules.proofs.ReadTables.{read-formed, read-few}
+use Rattle.rules.proofs.ReadTables.{read-few}
 use Rattle.rules.proofs.Replies.{no-means}
-use Rattle.rules.proofs.TextDual.{blank-against, text-dual-given, against-few, against-formed}
+use Rattle.rules.proofs.TextDual.{blank-against, text-dual-given, against-few}
 use Rattle.table.specs.declared.Table.{Table}
 use Rattle.table.specs.declared.answers.Answer.the-variants as answer
 use Rattle.table.specs.declared.answers.Found.{Found}
@@ -29,7 +29,7 @@ use Rattle.table.specs.declared.answers.Verdict.the-variants as the
 use Rattle.table.specs.declared.answers.Written.{Written}
 use Rattle.table.specs.declared.answers.Written.the-variants as written
 use Rattle.lines.specs.Adding.{Adds, StepsInPath}
-use Rattle.lines.specs.Asking.{asked, Held, not-read, held, Checked, all-long, short, WritesRefusal, too-short, written as refusal-written}
+use Rattle.lines.specs.Asking.{asked, Checked, all-long, short, WritesRefusal, too-short, written as refusal-written}
 use Rattle.lines.proofs.Adding.{at-front, front-length}
 
 -- an answer is one of the two
@@ -49,23 +49,12 @@ read-refused (refuses {n = k} {p = q} f g) e = let a = numbers e in rw (← a .0
     numbers e = (cc, cc)
 
 -- the table that new is held against
-module _ {s : List ℕ} {m : Made} (r : Reads s m) where
-  pub held-plain : (b : Bool) → b ≡ false → Held (asked b) s m
-  held-plain b e = rw e (go r)
-    where
-      go : {m : Made} → Reads s m → Held may-replace s m
-      go (accepts w f) = held (accepts w f)
-      go (refuses f g) = not-read (refuses f g)
+pub against-itself : (b : Bool) (t : Table) → b ≡ false → t ≡ against (asked b) t
+against-itself b t e = rw e refl
 
-  pub held-refused : {n p : ℕ} (q : Question) → m .answer ≡ answer.Refused n p → Held q s m
-  held-refused q e = go r e
-    where
-      go : {m : Made} {n p : ℕ} → Reads s m → m .answer ≡ answer.Refused n p → Held q s m
-      go (accepts w f) e = absurd (apart e)
-      go (refuses f g) e = not-read (refuses f g)
-
-  pub held-dual : (b : Bool) → b ≡ true → m .answer ≡ answer.Accepted → {d : Made} → d ≡ dual-reply (m .table) s → Held (asked b) s d
-  held-dual b e a p = let R = read-accepted r a in rw (e, p, text-dual-given R) (held R)
+pub against-dual :
+    {s : List ℕ} {t : Table} {d : Made} (b : Bool) → Reads s (made t) → b ≡ true → d ≡ dual-reply t s → d .table ≡ against (asked b) t
+against-dual b R e p = rw (e, p, text-dual-given R) refl
 
 -- Both texts were read: x is the table of the new one, and y is what it is held against.
 pub record Both (q : Question) (new-text old-text : List ℕ) (x y : Table) : Type 0 where
@@ -74,16 +63,12 @@ pub record Both (q : Question) (new-text old-text : List ℕ) (x y : Table) : Ty
   pub old-read : Reads old-text (made other)
   pub against-it : y ≡ against q other
 
-pub held-accepted :
-    {q : Question} {new-text old-text : List ℕ} {first second : Made} → Reads new-text first → first .answer ≡ answer.Accepted
-    → Held q old-text second → second .answer ≡ answer.Accepted → Both q new-text old-text (first .table) (second .table)
-held-accepted r a (not-read f) e = absurd (apart (sym e))
-held-accepted r a (held {t} R) e = record { other = t; new-read = read-accepted r a; old-read = R; against-it = refl }
-
-pub held-not-read :
-    {q : Question} {s : List ℕ} {m : Made} {n p : ℕ} → Held q s m → m .answer ≡ answer.Refused n p → Reads s (refused n p)
-held-not-read (not-read f) e = read-refused f e
-held-not-read (held R) e = absurd (apart e)
+pub both-read :
+    {new-text old-text : List ℕ} {first second : Made} {y : Table} (b : Bool) → Reads new-text first × Reads old-text second
+    → first .answer ≡ answer.Accepted → second .answer ≡ answer.Accepted → y ≡ against (asked b) (second .table)
+    → Both (asked b) new-text old-text (first .table) y
+both-read {second} b R f g e =
+    record { other = second .table; new-read = read-accepted (R .0) f; old-read = read-accepted (R .1) g; against-it = e }
 
 -- The reply for a refused text. It has no nodes, so that nothing is asked of the areas but that the line has room.
 module _ {number which place : ℕ} {before after : List ℕ} where
@@ -167,8 +152,7 @@ module _ {q : Question} {new-text old-text : List ℕ} {x y : Table} (B : Both q
   short-reply (all-long l) f = absurd (f refl)
   short-reply (short l) f = refuses-area counts l refl
 
-  -- every area is long enough, and a verdict was asked
-  module _ (before : LineAreas) (after : Areas) {p : ℕ} (K : Checked (x .count) (y .count) (lengths before) p) (z : p ≡ 0) {v : Verdict} (R : Replaces x new-text y old-text (before .lent) after v) where
+  module _ (before : LineAreas) {p : ℕ} (K : Checked (x .count) (y .count) (lengths before) p) (z : p ≡ 0) where
     long : AllLong (x .count) (y .count) (lengths before)
     long = go K z
       where
@@ -179,36 +163,30 @@ module _ {q : Question} {new-text old-text : List ℕ} {x y : Table} (B : Both q
         go (short (scratch-short a b c)) e = absurd (omega arith)
         go (short (line-short a b c d)) e = absurd (omega arith)
 
-    no-refusal : NoRefusal x new-text y old-text (before .lent)
+    -- nothing stands in the way of a verdict
+    pub no-refusal : NoRefusal x new-text y old-text (before .lent)
     no-refusal =
-        record {
-          new-formed = read-formed (B .new-read);
-          old-formed = rw (B .against-it) (against-formed (B .old-read) q);
-          marks-long = long .marks-long;
-          path-long = long .path-long;
-          scratch-long = long .scratch-long;
-        }
+        rw (B .against-it)
+        (texts-not-refused q (B .new-read) (B .old-read) (rw (B .against-it) at long .marks-long) (rw (B .against-it) at long .path-long)
+        (rw (B .against-it) at long .scratch-long))
 
-    answers : Answers q new-text old-text (before .lent) after (verdict-line v (after .path))
-    answers = go v R
-      where
-        go : (v : Verdict) → Replaces x new-text y old-text (before .lent) after v → Answers q new-text old-text (before .lent) after (verdict-line v (after .path))
-        go (the.Yes c) R = yes (B .new-read) (B .old-read) (rw (B .against-it) at R)
-        go (the.No f) R = no (B .new-read) (B .old-read) (rw (B .against-it) at R)
-        go (the.Refused n p) R = absurd (never-refused no-refusal R)
+    module _ (after : Areas) {v : Verdict} (R : Replaces x new-text y old-text (before .lent) after v) where
+      answers : Answers q new-text old-text (before .lent) after (verdict-line v (after .path))
+      answers =
+          verdict-answers q (B .new-read) (B .old-read) (rw (B .against-it) at no-refusal) v after (rw (B .against-it) at R)
 
-    pub verdict-fits : StepsInPath v (after .path) × (length (verdict-line v (after .path)) ≤ length (before .line))
-    verdict-fits = (go v R, omega (arith, line-length counts answers, long .line-long))
-      where
-        go : (v : Verdict) → Replaces x new-text y old-text (before .lent) after v → StepsInPath v (after .path)
-        go (the.Yes c) R = tt
-        go (the.No f) R =
-            let X = no-means R .1 in
-            let e : f .steps ≡ length (X .run) = ap (λ (g : Found). g .steps) (X .returned) in
-            omega (arith, e, ap length (X .path), length-append (X .run) (drop (length (X .run)) (before .lent .path)))
-        go (the.Refused n p) R = tt
+      pub verdict-fits : StepsInPath v (after .path) × (length (verdict-line v (after .path)) ≤ length (before .line))
+      verdict-fits = (go v R, omega (arith, line-length counts answers, long .line-long))
+        where
+          go : (v : Verdict) → Replaces x new-text y old-text (before .lent) after v → StepsInPath v (after .path)
+          go (the.Yes c) R = tt
+          go (the.No f) R =
+              let X = no-means R .1 in
+              let e : f .steps ≡ length (X .run) = ap (λ (g : Found). g .steps) (X .returned) in
+              omega (arith, e, ap length (X .path), length-append (X .run) (drop (length (X .run)) (before .lent .path)))
+          go (the.Refused n p) R = tt
 
-    pub verdict-reply :
-        {line : List ℕ} {r : ℕ} → Adds (before .line) 0 (verdict-line v (after .path)) line r
-        → WritesLine q new-text old-text before (record { lent = after; line = line }) (written.Line r)
-    verdict-reply A = rw (front-length A) (writes counts long answers (at-front A (verdict-fits .1)))
+      pub verdict-reply :
+          {line : List ℕ} {r : ℕ} → Adds (before .line) 0 (verdict-line v (after .path)) line r
+          → WritesLine q new-text old-text before (record { lent = after; line = line }) (written.Line r)
+      verdict-reply A = rw (front-length A) (writes counts long answers (at-front A (verdict-fits .1)))

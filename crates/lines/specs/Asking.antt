@@ -6,22 +6,14 @@ use mathlib.Core.Path.{_≡_}
 use Prim.Native.Nat.{ℕ, _<_, _≤_}
 use lib.ListN.{length, drop, getD}
 use Rattle.rules.specs.Refusals.{area-too-short}
-use Rattle.rules.specs.Line.{Question, may-replace, is-compatible, against, refused-line}
-use Rattle.rules.specs.Replies.{Reads, made, refused}
+use Rattle.rules.specs.Line.{Question, may-replace, is-compatible, refused-line}
 use Rattle.rules.specs.Writing.{Lengths, AllLong, LeastShort, line-size}
-use Rattle.table.specs.declared.Table.{Table}
-use Rattle.table.specs.declared.answers.Made.{Made}
 use Rattle.table.specs.declared.answers.Written.{Written}
 use Rattle.table.specs.declared.answers.Written.the-variants.{Line, Refused}
 
 abbrev pub asked : Bool → Question
 asked true = is-compatible
 asked false = may-replace
-
--- the table that new is held against, or why there is none
-pub data Held (q : Question) (text : List ℕ) : Made → Type 0 where
-  not-read : {n p : ℕ} → Reads text (refused n p) → Held q text (refused n p)
-  held : {t : Table} → Reads text (made t) → Held q text (made (against q t))
 
 -- the least area that is too short, or 0
 pub data Checked (n m : ℕ) (k : Lengths) : ℕ → Type 0 where

@@ -7,36 +7,33 @@ use crate::writing::put_verdict;
 use dual::dual;
 use reader::read;
 use replace::AREA_TOO_SHORT;
-use replace::may_replace;
+use replace::decide;
+use table::Table;
 use table::answers::Answer;
 use table::answers::Made;
 use table::answers::Written;
+ghost use mathlib.Core.Path.{_≡_};
 ghost use Prim.Native.Nat.{_<_, _≤_};
 ghost use lib.ListN.{length};
 ghost use Rattle.rules.specs.Numbers.{table-nodes-most, text-most};
-ghost use Rattle.rules.specs.Line.{may-replace, is-compatible, first-text, second-text};
+ghost use Rattle.rules.specs.Line.{may-replace, is-compatible, against, first-text, second-text};
+ghost use Rattle.rules.specs.Replies.{Reads, made};
 ghost use Rattle.rules.specs.Writing.{WritesLine};
-ghost use Rattle.lines.specs.Asking.{asked, Held, Checked, WritesRefusal, SplitsAt};
+ghost use Rattle.lines.specs.Asking.{asked, Checked, WritesRefusal, SplitsAt};
 
 // The line's area, in bytes: 6 × n × m + 18.
 const LINE_LEAST: usize = 18;
 
 // The table that the new one is held against: that of the second text, or its dual where compatible is asked.
-fn second_table(compatible: bool, text: &[u8]) -> Made
-    ensures { λ r. ⌜ Held (asked compatible) (now (text .entry)) r ⌝ }
+fn second_table(compatible: bool, t: Table, text: &[u8]) -> Table
+    requires { ⌜ Reads (now text) (made t) ⌝ }
+    ensures { λ r. ⌜ r ≡ against (asked compatible) t ⌝ }
 {
-    let made = read(text);
     if !compatible {
-        return made;
+        return t;
     }
-    let answer = made.answer;
-    match answer {
-        Answer::Refused {
-            number: _,
-            place: _,
-        } => made,
-        Answer::Accepted => dual(made.table, text),
-    }
+    let turned = dual(t, text);
+    turned.table
 }
 
 // The least area that is too short for n and m nodes, by its position from 1; 0 where none is.
@@ -74,30 +71,33 @@ fn refused_text(number: usize, which: usize, place: usize, line: &mut [u8]) -> W
     Written::Line(put_refused(number, which, place, line))
 }
 
-// The line for two texts, of which it is asked whether the first may replace the second, or is compatible with it.
+// The line for two texts that have been read, of which it is asked whether the first may replace the second, or is compatible with it. It reads
+// none itself: what reading and what a verdict need of the stack is then not needed at once.
 fn write_line(
     compatible: bool,
+    first: Made,
     new: &[u8],
+    second: Made,
     old: &[u8],
     marks: &mut [u8],
     path: &mut [u16],
     scratch: &mut [u16],
     line: &mut [u8],
 ) -> Written
+    requires { ⌜ Reads (now new) first × Reads (now old) second ⌝ }
     ensures { λ r. ⌜ WritesLine (asked compatible) (now (new .entry)) (now (old .entry)) (record { lent = record { marks = now (marks .entry); path = now (path .entry); scratch = now (scratch .entry) }; line = now (line .entry) }) (record { lent = record { marks = now (marks .exit); path = now (path .exit); scratch = now (scratch .exit) }; line = now (line .exit) }) r ⌝ }
 {
-    let first = read(new);
     let answer = first.answer;
     if let Answer::Refused { number, place } = answer {
         return refused_text(number, 1, place, line);
     }
-    let second = second_table(compatible, old);
     let answer = second.answer;
     if let Answer::Refused { number, place } = answer {
         return refused_text(number, 2, place, line);
     }
+    let other = second_table(compatible, second.table, old);
     let n = first.table.count as usize;
-    let m = second.table.count as usize;
+    let m = other.count as usize;
     let short = short_area(n, m, marks.len(), path.len(), scratch.len(), line.len());
     if short != 0 {
         return Written::Refused {
@@ -105,7 +105,7 @@ fn write_line(
             place: short,
         };
     }
-    let verdict = may_replace(first.table, new, second.table, old, marks, path, scratch);
+    let verdict = decide(first.table, new, other, old, marks, path, scratch);
     Written::Line(put_verdict(verdict, path, line))
 }
 
@@ -120,7 +120,9 @@ pub fn verdict_line(
 ) -> Written
     ensures { λ r. ⌜ WritesLine may-replace (now (new .entry)) (now (old .entry)) (record { lent = record { marks = now (marks .entry); path = now (path .entry); scratch = now (scratch .entry) }; line = now (line .entry) }) (record { lent = record { marks = now (marks .exit); path = now (path .exit); scratch = now (scratch .exit) }; line = now (line .exit) }) r ⌝ }
 {
-    write_line(false, new, old, marks, path, scratch, line)
+    let first = read(new);
+    let second = read(old);
+    write_line(false, first, new, second, old, marks, path, scratch, line)
 }
 
 // Whether the new text is compatible with the other one.
@@ -134,7 +136,9 @@ pub fn compatible_line(
 ) -> Written
     ensures { λ r. ⌜ WritesLine is-compatible (now (new .entry)) (now (other .entry)) (record { lent = record { marks = now (marks .entry); path = now (path .entry); scratch = now (scratch .entry) }; line = now (line .entry) }) (record { lent = record { marks = now (marks .exit); path = now (path .exit); scratch = now (scratch .exit) }; line = now (line .exit) }) r ⌝ }
 {
-    write_line(true, new, other, marks, path, scratch, line)
+    let first = read(new);
+    let second = read(other);
+    write_line(true, first, new, second, other, marks, path, scratch, line)
 }
 
 // The place of the first byte 0; the input's length where there is none.
@@ -151,23 +155,15 @@ fn first_zero(input: &[u8]) -> usize
     i
 }
 
-// "the new text, one byte 0, the old text": the line for the two texts of an input.
-fn write_input_line(
-    compatible: bool,
-    input: &[u8],
-    marks: &mut [u8],
-    path: &mut [u16],
-    scratch: &mut [u16],
-    line: &mut [u8],
-) -> Written
-    ensures { λ r. ⌜ WritesLine (asked compatible) (first-text (now (input .entry))) (second-text (now (input .entry))) (record { lent = record { marks = now (marks .entry); path = now (path .entry); scratch = now (scratch .entry) }; line = now (line .entry) }) (record { lent = record { marks = now (marks .exit); path = now (path .exit); scratch = now (scratch .exit) }; line = now (line .exit) }) r ⌝ }
+// "the new text, one byte 0, the old text": the second text of an input, behind the byte 0 at k.
+fn behind_zero(input: &[u8], k: usize) -> &[u8]
+    requires { ⌜ SplitsAt (now input) k ⌝ }
+    ensures { λ r. ⌜ now r ≡ second-text (now (input .entry)) ⌝ }
 {
-    let k = first_zero(input);
-    let new = &input[..k];
     if k == input.len() {
-        return write_line(compatible, new, &input[k..], marks, path, scratch, line);
+        return &input[k..];
     }
-    write_line(compatible, new, &input[k + 1..], marks, path, scratch, line)
+    &input[k + 1..]
 }
 
 // Whether the first text of an input may replace the second.
@@ -180,7 +176,9 @@ pub fn verdict_of_input(
 ) -> Written
     ensures { λ r. ⌜ WritesLine may-replace (first-text (now (input .entry))) (second-text (now (input .entry))) (record { lent = record { marks = now (marks .entry); path = now (path .entry); scratch = now (scratch .entry) }; line = now (line .entry) }) (record { lent = record { marks = now (marks .exit); path = now (path .exit); scratch = now (scratch .exit) }; line = now (line .exit) }) r ⌝ }
 {
-    write_input_line(false, input, marks, path, scratch, line)
+    let k = first_zero(input);
+    let old = behind_zero(input, k);
+    verdict_line(&input[..k], old, marks, path, scratch, line)
 }
 
 // Whether the first text of an input is compatible with the second.
@@ -193,5 +191,7 @@ pub fn compatible_of_input(
 ) -> Written
     ensures { λ r. ⌜ WritesLine is-compatible (first-text (now (input .entry))) (second-text (now (input .entry))) (record { lent = record { marks = now (marks .entry); path = now (path .entry); scratch = now (scratch .entry) }; line = now (line .entry) }) (record { lent = record { marks = now (marks .exit); path = now (path .exit); scratch = now (scratch .exit) }; line = now (line .exit) }) r ⌝ }
 {
-    write_input_line(true, input, marks, path, scratch, line)
+    let k = first_zero(input);
+    let other = behind_zero(input, k);
+    compatible_line(&input[..k], other, marks, path, scratch, line)
 }

@@ -130,97 +130,79 @@ module _ {new : Table} {new-names : List ℕ} {old : Table} {old-names : List �
 pub twice-scratch : {size : ℕ} (new old : Table) → size ≡ pair-count new old → size + size ≡ scratch-size new old
 twice-scratch new old e = omega (arith, e, scratch-twice (new .count) (old .count))
 
--- no refusal applies, and the first parts were written
-module _ {new : Table} {new-names : List ℕ} {old : Table} {old-names : List ℕ} {marks path scratch : List ℕ} {size : ℕ} where
-  pub none-applies :
-      well-formed new new-names ≡ true → well-formed old old-names ≡ true → size ≡ pair-count new old → size ≤ length marks
-      → size ≤ length path → size + size ≤ length scratch
-      → NoRefusal new new-names old old-names (record { marks = marks; path = path; scratch = scratch })
-  none-applies f g e m p s =
-      record {
-        new-formed = f;
-        old-formed = g;
-        marks-long = omega arith;
-        path-long = omega arith;
-        scratch-long = omega (arith, s, twice-scratch new old e);
-      }
-
-  replaces-whole :
-      {marks′ path′ scratch′ : List ℕ} {v : Verdict}
-      → NoRefusal new new-names old old-names (record { marks = marks; path = path; scratch = scratch }) → size ≡ pair-count new old
-      → length marks′ ≡ size → length path′ ≡ size
-      → Replaces new new-names old old-names
-      (record { marks = take size marks; path = take size path; scratch = take (size + size) scratch })
-      (record { marks = marks′; path = path′; scratch = scratch′ }) v
-      → Replaces new new-names old old-names (record { marks = marks; path = path; scratch = scratch })
-      (record {
-        marks = marks′ ++ drop size marks;
-        path = path′ ++ drop size path;
-        scratch = scratch′ ++ drop (size + size) scratch;
-      })
-      v
-  replaces-whole {v} F e l m R =
-      let d : size + size ≡ scratch-size new old = twice-scratch new old e in
-      rw (d, e) (replaces-longer F (l ∙ e) (m ∙ e) v (rw (d, e) at R))
+pub none-applies :
+    {new : Table} {new-names : List ℕ} {old : Table} {old-names marks path scratch : List ℕ} {size : ℕ} → well-formed new new-names ≡ true
+    → well-formed old old-names ≡ true → size ≡ pair-count new old → size ≤ length marks → size ≤ length path → size + size ≤ length scratch
+    → NoRefusal new new-names old old-names (record { marks = marks; path = path; scratch = scratch })
+none-applies {new} {old} f g e m p s =
+    record {
+      new-formed = f;
+      old-formed = g;
+      marks-long = omega arith;
+      path-long = omega arith;
+      scratch-long = omega (arith, s, twice-scratch new old e);
+    }
 
 -- a part that was written, taken again
 pub taken-long : {n : ℕ} (a b : List ℕ) → length a ≡ n → n ≡ length (take n (a ++ b))
 taken-long {n} a b l = sym (ap length (take-at a b n l) ∙ l)
 
--- The search was over the first parts, and so was the reply to its end.
-module _ {new : Table} {new-names : List ℕ} {old : Table} {old-names : List ℕ} {size : ℕ} (marks path scratch : List ℕ) where
-  pub conclude-asks :
-      {n m : ℕ} {ended : Ended} {marks₁ scratch₁ : List ℕ} → well-formed new new-names ≡ true → well-formed old old-names ≡ true
-      → size ≡ pair-count new old → n ≡ new .count → m ≡ old .count → size ≤ length path → length marks₁ ≡ size
-      → length scratch₁ ≡ size + size → EndedAt new new-names old old-names marks₁ scratch₁ ended
-      → Concludable n m (take size (marks₁ ++ drop size marks)) (take size path)
-      (take (size + size) (scratch₁ ++ drop (size + size) scratch)) (ended .tail)
-  conclude-asks {marks₁} {scratch₁} f g e en em lp l₁ k₁ E =
-      let F = formed f in
-      let G = formed g in
-      record {
-        new-some = omega (arith, en, F .some-node);
-        old-some = omega (arith, em, G .some-node);
-        new-few = omega (arith, en, F .few-nodes);
-        old-few = omega (arith, em, G .few-nodes);
-        queue =
-            rw (
-              take-at marks₁ (drop size marks) size l₁,
-              take-at scratch₁ (drop (size + size) scratch) (size + size) k₁,
-              en,
-              em,
-            )
-            (E .state .queue);
-        path-long = rw (en, em) (omega (arith, part-long path lp, e));
-      }
+-- No refusal applies. The search is over the areas' first parts, and so is the reply to its end.
+module _ {new : Table} {new-names : List ℕ} {old : Table} {old-names marks path scratch : List ℕ} (F : NoRefusal new new-names old old-names (record { marks = marks; path = path; scratch = scratch })) {size : ℕ} (e : size ≡ pair-count new old) where
+  pub marks-part : length (take size marks) ≡ size
+  marks-part = part-long marks (omega (arith, e, F .marks-long))
 
-module _ {new : Table} {new-names : List ℕ} {old : Table} {old-names : List ℕ} {marks path scratch : List ℕ} {size : ℕ} where
-  pub replaces-concluded :
-      {n m : ℕ} {ended : Ended} {marks₁ scratch₁ marks₂ path₂ scratch₂ : List ℕ} {v : Verdict}
-      → NoRefusal new new-names old old-names (record { marks = marks; path = path; scratch = scratch }) → size ≡ pair-count new old
-      → n ≡ new .count → m ≡ old .count → size ≤ length marks → size + size ≤ length scratch → length marks₁ ≡ size
-      → length scratch₁ ≡ size + size → length marks₂ ≡ size → length path₂ ≡ size
-      → EndedAt new new-names old old-names marks₁ scratch₁ ended
-      → Concludes n m ended (take size (marks₁ ++ drop size marks)) (take size path)
-      (take (size + size) (scratch₁ ++ drop (size + size) scratch)) marks₂ path₂ scratch₂ v
-      → Replaces new new-names old old-names (record { marks = marks; path = path; scratch = scratch })
-      (record {
-        marks = marks₂ ++ drop size (marks₁ ++ drop size marks);
-        path = path₂ ++ drop size path;
-        scratch = scratch₂ ++ drop (size + size) (scratch₁ ++ drop (size + size) scratch);
-      })
-      v
-  replaces-concluded {n} {m} {ended} {marks₁} {scratch₁} {marks₂} {path₂} {scratch₂} {v} F e en em lm ls l₁ k₁ l₂ p₂ E C =
-      let d : size + size ≡ scratch-size new old = twice-scratch new old e in
-      let parts : NoRefusal new new-names old old-names
-      (record { marks = take size marks; path = take size path; scratch = take (size + size) scratch }) =
-      rw (d, e) (parts-no-refusal F) in
-      let ended-there : EndedAt new new-names old old-names (take size (marks₁ ++ drop size marks))
-      (take (size + size) (scratch₁ ++ drop (size + size) scratch)) ended =
-      rw (take-at marks₁ (drop size marks) size l₁, take-at scratch₁ (drop (size + size) scratch) (size + size) k₁) E in
-      let R =
-      C .replies new new-names old old-names
-      (record { marks = take size marks; path = take size path; scratch = take (size + size) scratch }) en em parts
-      (part-long marks lm ∙ e) (part-long scratch ls ∙ d) refl ended-there in
-      rw (drop-at marks₁ (drop size marks) size l₁, drop-at scratch₁ (drop (size + size) scratch) (size + size) k₁)
-      (replaces-whole F e l₂ p₂ R)
+  pub path-part : length (take size path) ≡ size
+  path-part = part-long path (omega (arith, e, F .path-long))
+
+  pub scratch-part : length (take (size + size) scratch) ≡ size + size
+  scratch-part = part-long scratch (omega (arith, twice-scratch new old e, F .scratch-long))
+
+  module _ {marks₁ scratch₁ : List ℕ} (l₁ : length marks₁ ≡ size) (k₁ : length scratch₁ ≡ size + size) {n m : ℕ} (en : n ≡ new .count) (em : m ≡ old .count) {ended : Ended} (E : EndedAt new new-names old old-names marks₁ scratch₁ ended) where
+    pub conclude-asks :
+        Concludable n m (take size (marks₁ ++ drop size marks)) (take size path)
+        (take (size + size) (scratch₁ ++ drop (size + size) scratch)) (ended .tail)
+    conclude-asks =
+        let X = formed (F .new-formed) in
+        let Y = formed (F .old-formed) in
+        record {
+          new-some = omega (arith, en, X .some-node);
+          old-some = omega (arith, em, Y .some-node);
+          new-few = omega (arith, en, X .few-nodes);
+          old-few = omega (arith, em, Y .few-nodes);
+          queue =
+              rw (
+                take-at marks₁ (drop size marks) size l₁,
+                take-at scratch₁ (drop (size + size) scratch) (size + size) k₁,
+                en,
+                em,
+              )
+              (E .state .queue);
+          path-long = rw (en, em) (omega (arith, path-part, e));
+        }
+
+    pub replaces-concluded :
+        {marks₂ path₂ scratch₂ : List ℕ} {v : Verdict} → length marks₂ ≡ size → length path₂ ≡ size
+        → Concludes n m ended (take size (marks₁ ++ drop size marks)) (take size path)
+        (take (size + size) (scratch₁ ++ drop (size + size) scratch)) marks₂ path₂ scratch₂ v
+        → Replaces new new-names old old-names (record { marks = marks; path = path; scratch = scratch })
+        (record {
+          marks = marks₂ ++ drop size (marks₁ ++ drop size marks);
+          path = path₂ ++ drop size path;
+          scratch = scratch₂ ++ drop (size + size) (scratch₁ ++ drop (size + size) scratch);
+        })
+        v
+    replaces-concluded {marks₂} {path₂} {scratch₂} {v} l₂ p₂ C =
+        let d : size + size ≡ scratch-size new old = twice-scratch new old e in
+        let parts : NoRefusal new new-names old old-names
+        (record { marks = take size marks; path = take size path; scratch = take (size + size) scratch }) =
+        rw (d, e) (parts-no-refusal F) in
+        let ended-there : EndedAt new new-names old old-names (take size (marks₁ ++ drop size marks))
+        (take (size + size) (scratch₁ ++ drop (size + size) scratch)) ended =
+        rw (take-at marks₁ (drop size marks) size l₁, take-at scratch₁ (drop (size + size) scratch) (size + size) k₁) E in
+        let R =
+        C .replies new new-names old old-names
+        (record { marks = take size marks; path = take size path; scratch = take (size + size) scratch }) en em parts
+        (marks-part ∙ e) (scratch-part ∙ d) refl ended-there in
+        rw (drop-at marks₁ (drop size marks) size l₁, drop-at scratch₁ (drop (size + size) scratch) (size + size) k₁, d, e)
+        (replaces-longer F (l₂ ∙ e) (p₂ ∙ e) v (rw (d, e) at R))

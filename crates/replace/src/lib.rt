@@ -28,7 +28,7 @@ ghost use lib.ListN.{length};
 ghost use Rattle.rules.specs.Numbers.{table-nodes-most, labels-most};
 ghost use Rattle.rules.specs.Formed.{well-formed};
 ghost use Rattle.rules.specs.Pairs.{turns-most, turn-after, left-in, right-in};
-ghost use Rattle.rules.specs.Replies.{Replaces, pair-count, scratch-size};
+ghost use Rattle.rules.specs.Replies.{Replaces, NoRefusal, pair-count, scratch-size};
 ghost use Rattle.rules.specs.computed.Verdict.{fits};
 ghost use Rattle.rules.proofs.Places.{place};
 ghost use Rattle.rules.proofs.Steps.{Inside};
@@ -321,6 +321,42 @@ fn conclude(
     Verdict::No(found(sizes, last, wrong, steps))
 }
 
+// The verdict on two well formed tables, in areas that are long enough. `may_replace` has looked for both; so has a caller who has read the
+// tables from texts.
+pub fn decide(
+    new: Table,
+    new_names: &[u8],
+    old: Table,
+    old_names: &[u8],
+    marks: &mut [u8],
+    path: &mut [u16],
+    scratch: &mut [u16],
+) -> Verdict
+    requires { ⌜ NoRefusal new (now «new_names») old (now «old_names») (record { marks = now marks; path = now path; scratch = now scratch }) ⌝ }
+    ensures { λ r. ⌜ Replaces new (now («new_names» .entry)) old (now («old_names» .entry)) (record { marks = now (marks .entry); path = now (path .entry); scratch = now (scratch .entry) }) (record { marks = now (marks .exit); path = now (path .exit); scratch = now (scratch .exit) }) r ⌝ }
+{
+    let n = new.count as usize;
+    let m = old.count as usize;
+    let sizes = Sizes { new: n, old: m };
+    let size = pair_count(sizes);
+    let twice = size + size;
+    let ended = explore(
+        new,
+        new_names,
+        old,
+        old_names,
+        &mut marks[..size],
+        &mut scratch[..twice],
+    );
+    conclude(
+        ended,
+        sizes,
+        &mut marks[..size],
+        &mut path[..size],
+        &mut scratch[..twice],
+    )
+}
+
 // Whether `new` may replace `old`: yes with the count of marks, no with what was found, or a refusal.
 pub fn may_replace(
     new: Table,
@@ -368,19 +404,5 @@ pub fn may_replace(
             place: 3,
         };
     }
-    let ended = explore(
-        new,
-        new_names,
-        old,
-        old_names,
-        &mut marks[..size],
-        &mut scratch[..twice],
-    );
-    conclude(
-        ended,
-        sizes,
-        &mut marks[..size],
-        &mut path[..size],
-        &mut scratch[..twice],
-    )
+    decide(new, new_names, old, old_names, marks, path, scratch)
 }

@@ -5,9 +5,9 @@ use mathlib.Core.Bool.{false≢true}
 use mathlib.Core.List.{List, []}
 use mathlib.Core.Logic.{_↔_}
 use mathlib.Core.Path.{_≡_, refl, sym, _∙_}
-use Prim.Native.Nat.{ℕ}
+use Prim.Native.Nat.{ℕ, _≤_}
 use native.Mathlib.Omega.{arith}
-use lib.ListN.{length-replicate}
+use lib.ListN.{length, replicate, length-replicate}
 use Rattle.rules.specs.Line.{Question, against, Answers, Prints, first-refused, second-refused, yes, no, first-text, second-text}
 use Rattle.rules.specs.Replies.{Reads, accepts, refuses, Areas, NoRefusal, Replaces, new-not-formed, old-not-formed, marks-short, path-short, scratch-short, made, pair-count, scratch-size}
 use Rattle.rules.specs.computed.Line.{areas-for, verdict-line, second-line, first-line, printed}
@@ -32,27 +32,26 @@ never-refused F (marks-short a b m e) = omega (arith, m, F .marks-long)
 never-refused F (path-short a b m p e) = omega (arith, p, F .path-long)
 never-refused F (scratch-short a b m p s e) = omega (arith, s, F .scratch-long)
 
+-- Both texts were read: where the areas are long enough, no refusal applies, and a verdict has its line.
+module _ (q : Question) {new-text old-text : List ℕ} {new old : Table} {before : Areas} (a : Reads new-text (made new)) (b : Reads old-text (made old)) where
+  pub texts-not-refused :
+      pair-count new (against q old) ≤ length (before .marks) → pair-count new (against q old) ≤ length (before .path)
+      → scratch-size new (against q old) ≤ length (before .scratch) → NoRefusal new new-text (against q old) old-text before
+  texts-not-refused m p s =
+      record { new-formed = read-formed a; old-formed = against-formed b q; marks-long = m; path-long = p; scratch-long = s }
+
+  pub verdict-answers :
+      NoRefusal new new-text (against q old) old-text before → (v : Verdict) (after : Areas)
+      → Replaces new new-text (against q old) old-text before after v
+      → Answers q new-text old-text before after (verdict-line v (after .path))
+  verdict-answers F (the.Yes c) after r = yes a b r
+  verdict-answers F (the.No f) after r = no a b r
+  verdict-answers F (the.Refused n p) after r = absurd (never-refused F r)
+
 abbrev pub no-areas : Areas
 no-areas = record { marks = []; path = []; scratch = [] }
 
 module _ (q : Question) (new-text old-text : List ℕ) where
-  verdict-answers :
-      (new old : Table) → Reads new-text (made new) → Reads old-text (made old) → (v : Verdict) (after : Areas)
-      → Replaces new new-text (against q old) old-text (areas-for new (against q old)) after v
-      → Answers q new-text old-text (areas-for new (against q old)) after (verdict-line v (after .path))
-  verdict-answers new old a b (the.Yes c) after r = yes a b r
-  verdict-answers new old a b (the.No f) after r = no a b r
-  verdict-answers new old a b (the.Refused n p) after r =
-      absurd
-      (never-refused
-      (record {
-        new-formed = read-formed a;
-        old-formed = against-formed b q;
-        marks-long = omega (arith, length-replicate {A = ℕ} (pair-count new (against q old)) 0);
-        path-long = omega (arith, length-replicate {A = ℕ} (pair-count new (against q old)) 0);
-        scratch-long = omega (arith, length-replicate {A = ℕ} (scratch-size new (against q old)) 0);
-      }) r)
-
   -- a line, and areas that it comes with
   abbrev Answered : List ℕ → Type 0
   Answered l = (before : Areas) × (after : Areas) × Answers q new-text old-text before after l
@@ -62,7 +61,9 @@ module _ (q : Question) (new-text old-text : List ℕ) where
   second-answers new a m (refuses f g) = (no-areas, no-areas, second-refused a (refuses f g) refl)
   second-answers new a m (accepts {x} w f) =
       let old = against q (m .table) in
-      (areas-for new old, _, verdict-answers new (m .table) a (accepts w f) _ _ (verdict-replaces new new-text old old-text (areas-for new old)))
+      let zeros : (k : ℕ) → k ≤ length (replicate {A = ℕ} k 0) = λ k. omega (arith, length-replicate {A = ℕ} k 0) in
+      let F = texts-not-refused q a (accepts w f) (zeros (pair-count new old)) (zeros (pair-count new old)) (zeros (scratch-size new old)) in
+      (areas-for new old, _, verdict-answers q a (accepts w f) F _ _ (verdict-replaces new new-text old old-text (areas-for new old)))
 
   first-answers : (m : Made) → Reads new-text m → Answered (first-line q m new-text old-text)
   unfolding first-line

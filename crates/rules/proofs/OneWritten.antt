@@ -11,23 +11,18 @@ use lib.ListN.{length, drop}
 use borrow.Author.Tests.{ltb-true, ltb-false, lt-ltb, le-ltb}
 use Rattle.rules.specs.Pairs.{turns-most}
 use Rattle.rules.specs.Refusals.{area-too-short}
-use Rattle.rules.specs.Replies.{Areas, Reads, Replaces, NoRefusal, made, pair-count, scratch-size}
+use Rattle.rules.specs.Replies.{Areas, Reads, pair-count, scratch-size}
 use Rattle.rules.specs.Replies as replies
 use Rattle.rules.specs.Line.{Question, against, Answers, first-refused, second-refused, yes, no}
 use Rattle.rules.specs.Writing.{LineAreas, Lengths, lengths, line-size, Counts, AllLong, LeastShort, marks-short, path-short, scratch-short, line-short, WritesLine, refuses, writes}
 use Rattle.rules.specs.computed.Reading.{reading}
 use Rattle.rules.proofs.Agreement.{reads-reading}
-use Rattle.rules.proofs.LineAgreement.{never-refused}
+use Rattle.rules.proofs.LineAgreement.{texts-not-refused, verdict-answers}
 use Rattle.rules.proofs.OneLine.{same-table, not-refused, one-answer}
 use Rattle.rules.proofs.OneReading.{one-reading}
 use Rattle.rules.proofs.OneVerdict.{one-verdict}
-use Rattle.rules.proofs.ReadTables.{read-formed}
-use Rattle.rules.proofs.TextDual.{against-formed}
 use Rattle.rules.proofs.VerdictAgreement.{verdict-replaces}
-use Rattle.table.specs.declared.Table.{Table}
 use Rattle.table.specs.declared.answers.Made.{Made}
-use Rattle.table.specs.declared.answers.Verdict.{Verdict}
-use Rattle.table.specs.declared.answers.Verdict.the-variants as the
 use Rattle.table.specs.declared.answers.Written.{Written}
 use Rattle.table.specs.declared.answers.Written.the-variants.{Line, Refused}
 
@@ -136,14 +131,6 @@ module _ (q : Question) (new-text old-text : List ℕ) (before : Areas) where
   abbrev Answered : Type 0
   Answered = (after : Areas) × (l : List ℕ) × Answers q new-text old-text before after l
 
-  verdict-answered :
-      (new old : Table) → Reads new-text (made new) → Reads old-text (made old)
-      → NoRefusal new new-text (against q old) old-text before → (v : Verdict) (after : Areas)
-      → Replaces new new-text (against q old) old-text before after v → Answered
-  verdict-answered new old a b F (the.Yes c) after r = (after, _, yes a b r)
-  verdict-answered new old a b F (the.No f) after r = (after, _, no a b r)
-  verdict-answered new old a b F (the.Refused n p) after r = absurd (never-refused F r)
-
   abbrev Long : Made → Made → Type 0
   Long a b =
       (pair-count (a .table) (against q (b .table)) ≤ length (before .marks))
@@ -156,14 +143,9 @@ module _ (q : Question) (new-text old-text : List ℕ) (before : Areas) where
       (before, _, second-refused (replies.accepts v f) (replies.refuses g h) refl)
   answers-exist a b (replies.accepts v f) (replies.accepts w g) L =
       let old = against q (b .table) in
-      verdict-answered (a .table) (b .table) (replies.accepts v f) (replies.accepts w g)
-      (record {
-        new-formed = read-formed (replies.accepts v f);
-        old-formed = against-formed (replies.accepts w g) q;
-        marks-long = L .0;
-        path-long = L .1;
-        scratch-long = L .2;
-      }) _ _ (verdict-replaces (a .table) new-text old old-text before)
+      let v = replies.accepts v f in
+      let w = replies.accepts w g in
+      (_, _, verdict-answers q v w (texts-not-refused q v w (L .0) (L .1) (L .2)) _ _ (verdict-replaces (a .table) new-text old old-text before))
 
 pub written-exists :
     (q : Question) (new-text old-text : List ℕ) (before : LineAreas)

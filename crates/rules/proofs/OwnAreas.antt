@@ -13,7 +13,7 @@ use Rattle.rules.specs.Numbers.{text-nodes-most, table-nodes-most}
 use Rattle.rules.specs.Pairs.{turns-most}
 use Rattle.rules.specs.Replies.{Reads, accepts, refuses}
 use Rattle.rules.specs.Line.{Question, may-replace, is-compatible, against, first-text, second-text}
-use Rattle.rules.specs.Writing.{LineAreas, Lengths, lengths, AllLong, WritesLine, refuses as refuses-area, writes, PrintsInto}
+use Rattle.rules.specs.Writing.{LineAreas, Counts, Lengths, lengths, AllLong, WritesLine, refuses as refuses-area, writes, PrintsInto}
 use Rattle.table.specs.declared.answers.Made.{Made}
 use Rattle.table.specs.declared.answers.Written.the-variants.{Line, Refused}
 
@@ -30,6 +30,11 @@ old-few : {s : List ℕ} {m : Made} (q : Question) → Reads s m → against q (
 old-few may-replace r = new-few r
 old-few is-compatible (accepts w f) = against-few (accepts w f) is-compatible
 old-few is-compatible (refuses f g) = omega (arith, blank-against is-compatible)
+
+-- so many nodes there are at most
+pub counts-few :
+    {q : Question} {new-text old-text : List ℕ} {n m : ℕ} → Counts q new-text old-text n m → (n ≤ text-nodes-most) × (m ≤ against-most q)
+counts-few {q} C = (rw (C .new-count) (new-few (C .first-read)), rw (C .old-count) (old-few q (C .second-read)))
 
 -- areas for so many nodes are long enough for fewer
 pub fewer-long : {n m n′ m′ : ℕ} {k : Lengths} → n′ ≤ n → m′ ≤ m → AllLong n m k → AllLong n′ m′ k
@@ -49,7 +54,8 @@ module _ {q : Question} {new-text old-text : List ℕ} {before after : LineAreas
   pub own-enough :
       {n p : ℕ} → AllLong text-nodes-most (against-most q) (lengths before) → WritesLine q new-text old-text before after (Refused n p) → ⊥
   own-enough L (refuses-area C s e) =
-      not-short (fewer-long (rw (C .new-count) (new-few (C .first-read))) (rw (C .old-count) (old-few q (C .second-read))) L) s
+      let few = counts-few C in
+      not-short (fewer-long (few .0) (few .1) L) s
 
 pub printed-into :
     {q : Question} (input : List ℕ) {before after : LineAreas} {r : ℕ}
