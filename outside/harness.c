@@ -1,0 +1,82 @@
+/* The C interface as a program in C uses it: each function, both questions, a refused text and areas that are too short. */
+#include "../include/dzaghvori.h"
+
+#include <stdio.h>
+#include <string.h>
+
+static const char R[] = "R = +{sum: ![string]; &{ok: ?(float); R | bad: R} | stop: end} .";
+static const char N[] = "N = +{sum: ![string]; &{ok: ?(float); N | late: N} | stop: end} .";
+static const char U[] = "U = &{sum: ?(string); +{ok: ![float]; U | bad: U} | stop: end} .";
+
+/* R and N have 5 nodes each, and so has the dual of either. */
+enum { NODES = 5 };
+
+static uint8_t marks[DZAGHVORI_MARKS(NODES, NODES)];
+static uint16_t path[DZAGHVORI_PATH(NODES, NODES)];
+static uint16_t scratch[DZAGHVORI_SCRATCH(NODES, NODES)];
+static uint8_t line[DZAGHVORI_LINE(NODES, NODES)];
+
+static int checks;
+static int failures;
+
+static void check(int right, const char *what) {
+    checks++;
+    if (!right) {
+        failures++;
+        printf("harness.c: %s\n", what);
+    }
+}
+
+static const uint8_t *bytes(const char *text) { return (const uint8_t *)text; }
+
+/* Whether the area holds this line, of this length. */
+static int is_line(size_t length, const char *expected) {
+    return length == strlen(expected) && memcmp(line, expected, length) == 0;
+}
+
+static size_t verdict(const char *new_text, const char *old_text, size_t line_length, size_t *area) {
+    return dzaghvori_verdict(bytes(new_text), strlen(new_text), bytes(old_text), strlen(old_text), marks, sizeof marks, path,
+                             sizeof path / sizeof *path, scratch, sizeof scratch / sizeof *scratch, line, line_length, area);
+}
+
+static void check_verdict(void) {
+    size_t area = 9;
+    check(is_line(verdict(R, R, sizeof line, &area), "yes 5\n") && area == 0, "R may replace itself");
+    check(marks[0] == 1 && scratch[0] == 0, "the starts are marked, and scratch is 0");
+    check(is_line(verdict(N, R, sizeof line, &area), "no 23 1 2 2 0 0 4\n") && area == 0, "N may not replace R");
+    check(path[0] == 0 && path[1] == 4 && marks[0] == 0, "the path holds the steps, and marks are 0");
+    check(is_line(verdict("A = A .", R, sizeof line, &area), "refused 9 1 0\n") && area == 0, "a first text is refused");
+    check(is_line(verdict(R, "", sizeof line, &area), "refused 2 2 0\n") && area == 0, "a second text is refused");
+}
+
+static void check_short(void) {
+    size_t area = 9;
+    memset(line, 'x', sizeof line);
+    check(verdict(N, R, sizeof line - 1, &area) == 0 && area == 4, "a line that is too short is refused");
+    check(line[0] == 'x', "and nothing is written");
+    check(dzaghvori_verdict(bytes(N), strlen(N), bytes(R), strlen(R), marks, sizeof marks - 1, path, 0, scratch, 0, line, 0, &area) == 0 &&
+              area == 1,
+          "of several areas that are too short the first is named");
+}
+
+static void check_others(void) {
+    size_t area = 9;
+    size_t length =
+        dzaghvori_compatible(bytes(U), strlen(U), bytes(R), strlen(R), marks, sizeof marks, path, sizeof path / sizeof *path, scratch,
+                             sizeof scratch / sizeof *scratch, line, sizeof line, &area);
+    check(is_line(length, "yes 5\n") && area == 0, "U is compatible with R");
+    length = dzaghvori_verdict_own(bytes(N), strlen(N), bytes(R), strlen(R), line, sizeof line, &area);
+    check(is_line(length, "no 23 1 2 2 0 0 4\n") && area == 0, "a verdict in areas of its own");
+    length = dzaghvori_compatible_own(bytes(U), strlen(U), bytes(R), strlen(R), line, sizeof line, &area);
+    check(is_line(length, "yes 5\n") && area == 0, "compatible in areas of its own");
+    length = dzaghvori_verdict_own(bytes(R), strlen(R), bytes(R), strlen(R), line, 18, &area);
+    check(length == 0 && area == 4, "a line that is too short beside areas of its own");
+}
+
+int main(void) {
+    check_verdict();
+    check_short();
+    check_others();
+    printf("harness.c: %d checks, %d failures\n", checks, failures);
+    return failures != 0;
+}
