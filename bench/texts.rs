@@ -61,17 +61,20 @@ pub fn facing(text: &str) -> String {
     text.chars().map(turned).collect()
 }
 
-/// n choices that go round, and an end. The last of the new one's may choose `x`;
-/// all of the old one's know it but the last. Rings of lengths that have no
-/// divisor in common go round until the two last ones meet.
+/// n choices that go round. The last of the new one's may choose `x`; all of the
+/// old one's know it but the last. Rings of lengths that have no divisor in common
+/// go round until the two last ones meet.
 pub fn long_new(n: usize) -> String {
-    let listed = |node: usize| if node == n - 1 { "|x:E" } else { "" };
-    definitions(n, |node, next| format!("N{node}=&{{n:N{next}{}}}.", listed(node))) + "E=end."
+    definitions(n, |node, next| listing(node, next, node == n - 1))
 }
 
 pub fn long_old(n: usize) -> String {
-    let listed = |node: usize| if node == n - 1 { "" } else { "|x:E" };
-    definitions(n, |node, next| format!("N{node}=&{{n:N{next}{}}}.", listed(node))) + "E=end."
+    definitions(n, |node, next| listing(node, next, node != n - 1))
+}
+
+fn listing(node: usize, next: usize, known: bool) -> String {
+    let known = if known { format!("|x:N{next}") } else { String::new() };
+    format!("N{node}=&{{n:N{next}{known}}}.")
 }
 
 /// 63 choices, as long as a text may be: words of 16 bytes, and blanks.

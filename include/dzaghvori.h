@@ -4,11 +4,13 @@
  * cannot see C itself must keep, for every function here:
  *
  * - Each pointer is valid for as many elements as the length behind it says: the texts to read, the areas to read and write. Where a length is
- *   0 its pointer may be anything but null, and is not looked at.
+ *   0 its pointer may be any that is not null and is aligned, and is not looked at.
  * - `path` and `scratch` are aligned for uint16_t, and `area` for size_t.
  * - The areas and `*area` lie apart from each other and from the texts. The texts may be the same or overlap.
  * - Nobody else reads or writes the areas, or writes the texts, while a call goes on. A call keeps nothing behind it: several may go on at once
  *   in areas of their own.
+ * - There is stack enough: at most 88,368 bytes were seen, and 145,616 for dzaghvori_verdict_own and 202,960 for dzaghvori_compatible_own, which
+ *   have areas of their own there (docs/PERFORMANCE.md).
  *
  * A text is at most 4,096 bytes long; a longer one is refused in the line, as every fault of a text is. It needs no byte 0 behind it.
  */
@@ -49,11 +51,12 @@ size_t dzaghvori_compatible(const uint8_t *new_text, size_t new_length, const ui
                             size_t marks_length, uint16_t *path, size_t path_length, uint16_t *scratch, size_t scratch_length,
                             uint8_t *line, size_t line_length, size_t *area);
 
-/* The same two with marks, path and scratch of their own, on the stack: about 56 KB for the first and 112 KB for the second, beside what the
- * functions above take. The line alone can be too short: then 0 is returned and `*area` is 4. */
+/* The same as dzaghvori_verdict, with marks, path and scratch of its own, which are enough for every two texts. The line alone can be too short:
+ * then 0 is returned, `*area` is 4, and nothing else is written. */
 size_t dzaghvori_verdict_own(const uint8_t *new_text, size_t new_length, const uint8_t *old_text, size_t old_length, uint8_t *line,
                              size_t line_length, size_t *area);
 
+/* The same as dzaghvori_compatible, with marks, path and scratch of its own, likewise. */
 size_t dzaghvori_compatible_own(const uint8_t *new_text, size_t new_length, const uint8_t *other_text, size_t other_length, uint8_t *line,
                                 size_t line_length, size_t *area);
 

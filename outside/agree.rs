@@ -1,11 +1,10 @@
-//! Whether `plain` agrees with the definitions of document 01 taken literally, on
-//! the generator's inputs: `agree [count] [seed]`. Large tables and very long runs
-//! are left out: that is slow.
+//! Whether the verdicts of `plain` are those of document 01's definitions taken
+//! literally, on the generator's inputs: `agree [count] [seed]`. Large tables and
+//! very long runs are left out: that is slow.
 
 #[path = "plain/by_definition.rs"]
 #[allow(dead_code)]
 mod by_definition;
-mod generator;
 
 use std::collections::BTreeMap;
 

@@ -3,7 +3,6 @@
 //! difference is printed with its input and both answers, and ends the run with
 //! status 1; so does a run that met too little.
 
-mod generator;
 mod met;
 mod proved;
 
@@ -62,10 +61,14 @@ fn compare(question: Question, input: &Input, expected: &[u8], areas: &mut Areas
     let answer = proved::line(question, &input.first, &input.second, areas);
     let line = answer.map(|length| &areas.line[..length]);
     if line != Ok(expected) {
-        differ(question, input, expected, &format!("{:?}", line.map(shown)));
+        differ(question, input, &shown(expected), &format!("{:?}", line.map(shown)));
     }
-    if let Some(what) = areas_differ(question, input, areas) {
-        differ(question, input, expected, what);
+    let Some(kept) = Kept::by_plain(question, input) else {
+        return;
+    };
+    let found = Kept::found(&kept, areas);
+    if kept != found {
+        differ(question, input, &format!("{kept:?}"), &format!("{found:?}"));
     }
 }
 
@@ -73,42 +76,56 @@ fn compare_own(question: Question, input: &Input, expected: &[u8], line: &mut [u
     let answer = proved::line_own(question, &input.first, &input.second, line);
     let line = answer.map(|length| &line[..length]);
     if line != Ok(expected) {
-        differ(question, input, expected, &format!("in areas of its own {:?}", line.map(shown)));
+        let found = format!("in areas of its own {:?}", line.map(shown));
+        differ(question, input, &shown(expected), &found);
     }
 }
 
-/// "After yes: reached pairs are marked 1, others 0 ... After no: marks 0; the
-/// path holds the steps ... Scratch is 0 after either."
-fn areas_differ(question: Question, input: &Input, areas: &Areas) -> Option<&'static str> {
-    let (new, old) = (plain::read(&input.first).ok()?, plain::read(&input.second).ok()?);
-    let old = match question {
-        Question::Verdict => old,
-        Question::Compatible => plain::dual(&old).expect("a text has at most 64 nodes"),
-    };
-    let pairs = 2 * new.nodes().len() * old.nodes().len();
-    let (marks, path) = (&areas.marks[..pairs], &areas.path[..]);
-    let right = match plain::may_replace(&new, &input.first, &old, &input.second) {
-        Verdict::Yes { marks: expected, .. } => {
-            marks.iter().zip(&expected).all(|(mark, reached)| *mark == *reached as u8)
-        }
-        Verdict::No { run, .. } => marks.iter().all(|mark| *mark == 0) && path[..run.len()] == run,
-    };
-    if !right {
-        return Some("marks or path differ");
+/// What the areas hold behind a verdict. "After yes: reached pairs are marked 1,
+/// others 0 ... After no: marks 0; the path holds the steps ... Scratch is 0 after
+/// either."
+#[derive(PartialEq, Eq, Debug)]
+struct Kept {
+    marks: Vec<u8>,
+    steps: Vec<u16>,
+    scratch_is_0: bool,
+}
+
+impl Kept {
+    /// Nothing where a text is refused.
+    fn by_plain(question: Question, input: &Input) -> Option<Kept> {
+        let (new, old) = (plain::read(&input.first).ok()?, plain::read(&input.second).ok()?);
+        let old = match question {
+            Question::Verdict => old,
+            Question::Compatible => plain::dual(&old).expect("a text has at most 64 nodes"),
+        };
+        let (marks, steps) = match plain::may_replace(&new, &input.first, &old, &input.second) {
+            Verdict::Yes { marks, .. } => (marks.into_iter().map(u8::from).collect(), Vec::new()),
+            Verdict::No { run, .. } => (vec![0; 2 * new.nodes().len() * old.nodes().len()], run),
+        };
+        Some(Kept { marks, steps, scratch_is_0: true })
     }
-    let cleared = areas.scratch[..2 * pairs].iter().all(|number| *number == 0);
-    (!cleared).then_some("scratch is not 0")
+
+    /// As much of the areas as is expected.
+    fn found(expected: &Kept, areas: &Areas) -> Kept {
+        let pairs = expected.marks.len();
+        Kept {
+            marks: areas.marks[..pairs].to_vec(),
+            steps: areas.path[..expected.steps.len()].to_vec(),
+            scratch_is_0: areas.scratch[..2 * pairs].iter().all(|number| *number == 0),
+        }
+    }
 }
 
 fn shown(line: &[u8]) -> String {
     line.escape_ascii().to_string()
 }
 
-fn differ(question: Question, input: &Input, expected: &[u8], proved: &str) -> ! {
+fn differ(question: Question, input: &Input, plain: &str, proved: &str) -> ! {
     println!("differ at {question:?}, {}", input.kind);
     println!("first text:  {}", input.first.escape_ascii());
     println!("second text: {}", input.second.escape_ascii());
-    println!("plain:       {}", shown(expected));
+    println!("plain:       {plain}");
     println!("proved:      {proved}");
     std::process::exit(1);
 }

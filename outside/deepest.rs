@@ -1,9 +1,7 @@
 //! The deepest stack of a line, beside the lent areas: `deepest [count] [seed]`.
-//! It is measured on generated inputs and on texts for which reading calls itself
+//! It is measured on generated inputs and on a text for which reading calls itself
 //! deepest, and is not to be more than 96 KB.
 
-#[allow(dead_code)]
-mod generator;
 #[allow(dead_code)]
 mod proved;
 mod stack;
@@ -20,27 +18,36 @@ fn main() {
     let seed = arguments.next().unwrap_or(1);
     let mut areas = Areas::sized(64, 128);
     let mut stack = Stack::new();
-    let mut measure = |first: &[u8], second: &[u8]| {
-        let [verdict, compatible] = [Question::Verdict, Question::Compatible].map(|question| {
-            stack.of(&mut || {
-                proved::line(question, first, second, &mut areas)
-                    .expect("the areas are long enough");
-            })
-        });
-        verdict.max(compatible)
-    };
     // Each message is read inside the one before it; the last is one too many.
     let messages = format!("A = {}A .", "?(string);".repeat(65));
-    let longest = measure(b"A = end .", messages.as_bytes());
+    let [mut lent, mut own] = [[0, 0]; 2];
+    let mut measure = |first: &[u8], second: &[u8]| {
+        for (at, question) in [Question::Verdict, Question::Compatible].into_iter().enumerate() {
+            lent[at] = lent[at].max(stack.of(&mut || {
+                proved::line(question, first, second, &mut areas)
+                    .expect("the areas are long enough");
+            }));
+            own[at] = own[at].max(stack.of(&mut || {
+                proved::line_own(question, first, second, &mut areas.line)
+                    .expect("the area is long enough");
+            }));
+        }
+    };
+    measure(b"A = end .", messages.as_bytes());
     let mut generator = Generator::new(seed);
-    let generated = (0..count)
-        .map(|_| generator.next())
-        .map(|input| measure(&input.first, &input.second))
-        .max();
-    let deepest = longest.max(generated.unwrap_or(0));
-    println!("stack of a line: {longest} bytes for 65 messages, {deepest} at most with {count} inputs from seed {seed}");
-    if deepest > MOST {
-        println!("that is more than {MOST}");
+    for _ in 0..count {
+        let input = generator.next();
+        measure(&input.first, &input.second);
+    }
+    println!(
+        "stack of {count} inputs from seed {seed}, and of 65 messages, verdict and compatible:"
+    );
+    println!(
+        "{} and {} bytes in lent areas, {} and {} in its own",
+        lent[0], lent[1], own[0], own[1]
+    );
+    if lent[0].max(lent[1]) > MOST {
+        println!("in lent areas that is more than {MOST}");
         std::process::exit(1);
     }
 }

@@ -34,7 +34,28 @@ static int is_line(size_t length, const char *expected) {
     return length == strlen(expected) && memcmp(line, expected, length) == 0;
 }
 
+/* Fills every area with a byte that none of them is to hold. */
+static void paint(void) {
+    memset(marks, 0xa5, sizeof marks);
+    memset(path, 0xa5, sizeof path);
+    memset(scratch, 0xa5, sizeof scratch);
+    memset(line, 0xa5, sizeof line);
+}
+
+/* Whether all bytes of an area, from one on, have this value. */
+static int all_are(const void *area, size_t from, size_t size, uint8_t value) {
+    const uint8_t *at = area;
+    for (size_t i = from; i < size; i++)
+        if (at[i] != value) return 0;
+    return 1;
+}
+
+static int areas_painted(void) {
+    return all_are(marks, 0, sizeof marks, 0xa5) && all_are(path, 0, sizeof path, 0xa5) && all_are(scratch, 0, sizeof scratch, 0xa5);
+}
+
 static size_t verdict(const char *new_text, const char *old_text, size_t line_length, size_t *area) {
+    paint();
     return dzaghvori_verdict(bytes(new_text), strlen(new_text), bytes(old_text), strlen(old_text), marks, sizeof marks, path,
                              sizeof path / sizeof *path, scratch, sizeof scratch / sizeof *scratch, line, line_length, area);
 }
@@ -42,21 +63,25 @@ static size_t verdict(const char *new_text, const char *old_text, size_t line_le
 static void check_verdict(void) {
     size_t area = 9;
     check(is_line(verdict(R, R, sizeof line, &area), "yes 5\n") && area == 0, "R may replace itself");
-    check(marks[0] == 1 && scratch[0] == 0, "the starts are marked, and scratch is 0");
+    check(all_are(line, 6, sizeof line, 0xa5), "what is beyond the line stays");
+    check(marks[0] == 1 && marks[6] == 1 && marks[1] == 0, "the pairs reached are marked, and no other");
+    check(all_are(path, 0, sizeof path, 0xa5) && all_are(scratch, 0, sizeof scratch, 0), "the path stays, and scratch is 0");
     check(is_line(verdict(N, R, sizeof line, &area), "no 23 1 2 2 0 0 4\n") && area == 0, "N may not replace R");
-    check(path[0] == 0 && path[1] == 4 && marks[0] == 0, "the path holds the steps, and marks are 0");
+    check(path[0] == 0 && path[1] == 4 && all_are(path, 4, sizeof path, 0xa5), "the path holds the steps");
+    check(all_are(marks, 0, sizeof marks, 0) && all_are(scratch, 0, sizeof scratch, 0), "marks and scratch are 0");
     check(is_line(verdict("A = A .", R, sizeof line, &area), "refused 9 1 0\n") && area == 0, "a first text is refused");
+    check(areas_painted(), "and marks, path and scratch stay");
     check(is_line(verdict(R, "", sizeof line, &area), "refused 2 2 0\n") && area == 0, "a second text is refused");
 }
 
 static void check_short(void) {
     size_t area = 9;
-    memset(line, 'x', sizeof line);
     check(verdict(N, R, sizeof line - 1, &area) == 0 && area == 4, "a line that is too short is refused");
-    check(line[0] == 'x', "and nothing is written");
+    check(areas_painted() && all_are(line, 0, sizeof line, 0xa5), "and nothing is written");
     check(dzaghvori_verdict(bytes(N), strlen(N), bytes(R), strlen(R), marks, sizeof marks - 1, path, 0, scratch, 0, line, 0, &area) == 0 &&
               area == 1,
           "of several areas that are too short the first is named");
+    check(areas_painted() && all_are(line, 0, sizeof line, 0xa5), "and nothing is written then");
 }
 
 static void check_others(void) {
@@ -69,8 +94,10 @@ static void check_others(void) {
     check(is_line(length, "no 23 1 2 2 0 0 4\n") && area == 0, "a verdict in areas of its own");
     length = dzaghvori_compatible_own(bytes(U), strlen(U), bytes(R), strlen(R), line, sizeof line, &area);
     check(is_line(length, "yes 5\n") && area == 0, "compatible in areas of its own");
-    length = dzaghvori_verdict_own(bytes(R), strlen(R), bytes(R), strlen(R), line, 18, &area);
+    paint();
+    length = dzaghvori_verdict_own(bytes(R), strlen(R), bytes(R), strlen(R), line, sizeof line - 1, &area);
     check(length == 0 && area == 4, "a line that is too short beside areas of its own");
+    check(all_are(line, 0, sizeof line, 0xa5), "and it stays");
 }
 
 int main(void) {

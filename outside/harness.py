@@ -1,6 +1,6 @@
 #!/usr/bin/env python3
 """The proved library from Python: harness.py SHARED_OBJECT NEW OLD prints the line for two files; with --compatible before NEW, for the other
-question. harness.py SHARED_OBJECT --check runs what document 01 says of its five texts."""
+question. harness.py SHARED_OBJECT --check asks for the rows of document 01's two tables, and for R and what faces it."""
 
 import ctypes
 import sys
@@ -38,22 +38,54 @@ class Dzaghvori:
         return line.raw[:length].decode("ascii")
 
 
+R = b"R = +{sum: ![string]; &{ok: ?(float); R | bad: R} | stop: end} ."
+N = b"N = +{sum: ![string]; &{ok: ?(float); N | late: N} | stop: end} ."
+M = b"M = +{sum: ![string]; &{ok: ?(float); M} | stop: end | reset: M} ."
+P = b"P = ![+{a: end}]; end ."
+Q = b"Q = ![+{a: end | b: end}]; end ."
+
+# "New, old", and the line
+VERDICTS = [
+    (R, R, "yes 5"),
+    (N, R, "no 23 1 2 2 0 0 4"),
+    (M, R, "yes 5"),
+    (R, M, "no 23 2 0 0 0"),
+    (P, Q, "yes 4"),
+    (Q, P, "no 23 1 1 1 1 0"),
+    (b"A = end .", b"B = ?(); end .", "no 20 0 0 0 0"),
+    (b"A = ?(); end .", b"B = ?(void); end .", "no 21 0 0 0 0"),
+    (b"A = ?(string); end .", b"B = ?(float); end .", "no 22 0 0 0 0"),
+    (b"A = ?(string); A .", b"B = ?(string); ?(string); B .", "yes 2"),
+]
+
+# a text, its refusal and the place
+REFUSED = [
+    (b"", 2, 0),
+    (b"A = end", 2, 7),
+    (b"A = +{} .", 2, 6),
+    (b"A = ![string) .", 2, 12),
+    (b"A = A .", 9, 0),
+    (b"A = B .", 8, 4),
+    (b"A = end . A = end .", 7, 10),
+    (b"A = +{m: end | m: end} .", 6, 15),
+]
+
+# R with every direction turned
+FACING_R = b"U = &{sum: ?(string); +{ok: ![float]; U | bad: U} | stop: end} ."
+
+
 def check(library):
-    """Rows of document 01."""
-    r = b"R = +{sum: ![string]; &{ok: ?(float); R | bad: R} | stop: end} ."
-    n = b"N = +{sum: ![string]; &{ok: ?(float); N | late: N} | stop: end} ."
-    p = b"P = ![+{a: end}]; end ."
-    q = b"Q = ![+{a: end | b: end}]; end ."
-    u = b"U = &{sum: ?(string); +{ok: ![float]; U | bad: U} | stop: end} ."
-    rows = [
-        (library.verdict, r, r, "yes 5\n"),
-        (library.verdict, n, r, "no 23 1 2 2 0 0 4\n"),
-        (library.verdict, p, q, "yes 4\n"),
-        (library.verdict, q, p, "no 23 1 1 1 1 0\n"),
-        (library.verdict, b"", r, "refused 2 1 0\n"),
-        (library.compatible, u, r, "yes 5\n"),
-    ]
-    wrong = [row for row in rows if row[0](row[1], row[2]) != row[3]]
+    """Whether every row gets its line."""
+    rows = [(library.verdict, new, old, line) for new, old, line in VERDICTS]
+    for text, number, place in REFUSED:
+        for ask in (library.verdict, library.compatible):
+            rows.append((ask, text, R, f"refused {number} 1 {place}"))
+            rows.append((ask, R, text, f"refused {number} 2 {place}"))
+    rows.append((library.compatible, R, FACING_R, "yes 5"))
+    rows.append((library.compatible, N, FACING_R, "no 23 1 2 2 0 0 4"))
+    wrong = [row for row in rows if row[0](row[1], row[2]) != row[3] + "\n"]
+    for _, first, second, line in wrong:
+        print(f"harness.py: not '{line}' for {first} and {second}")
     print(f"harness.py: {len(rows)} rows, {len(wrong)} wrong")
     return not wrong
 

@@ -6,7 +6,7 @@ use std::collections::BTreeMap;
 
 use plain::{Node, Table};
 
-/// Each of these is met so often at least, by the two questions together.
+/// Each is met so often at least, by either question.
 const LEAST: usize = 200;
 
 #[derive(Default)]
@@ -68,11 +68,14 @@ impl Met {
             "no, run of more than   20 steps",
             "no, run of more than  100 steps",
         ];
-        refused
-            .chain(reasons)
-            .chain(others.map(String::from))
-            .filter(|row| self.lines.get(row).map_or(0, |counts| counts[0] + counts[1]) < LEAST)
-            .collect()
+        let seldom = |row: &String| {
+            self.lines.get(row).is_none_or(|both| *both.iter().min().expect("two") < LEAST)
+        };
+        let lines = refused.chain(reasons).chain(others.map(String::from)).filter(seldom);
+        let few = |texts: Option<&usize>| texts.is_none_or(|texts| *texts < LEAST);
+        let limits = LIMITS.into_iter().filter(|limit| few(self.taken.get(limit)));
+        let one_more = ONE_MORE.into_iter().filter(|what| few(self.too_many.get(what)));
+        lines.chain(limits.chain(one_more).map(String::from)).collect()
     }
 }
 
@@ -110,6 +113,21 @@ fn rows(fields: &[&str]) -> Vec<String> {
     rows
 }
 
+/// The limits of a text.
+const LIMITS: [&str; 7] = [
+    "4,096 bytes",
+    "96 definitions",
+    "64 nodes",
+    "16 labels",
+    "4 items",
+    "16 open brackets",
+    "a word of 16 bytes",
+];
+
+/// What there is one too many of where refusal 5 is given; the other limits have
+/// refusals of their own.
+const ONE_MORE: [&str; 4] = ["definition", "label", "item, or node as an item", "node"];
+
 /// The limits that a text which was taken comes to exactly.
 fn limits(text: &[u8], table: &Table) -> Vec<&'static str> {
     let counted = |bytes: &[u8]| text.iter().filter(|byte| bytes.contains(byte)).count();
@@ -127,24 +145,29 @@ fn limits(text: &[u8], table: &Table) -> Vec<&'static str> {
         most_open = most_open.max(open);
     }
     let in_word = |byte: &u8| byte.is_ascii_alphanumeric() || *byte == b'_';
-    let all = [
-        ("4,096 bytes", text.len() == 4096),
-        ("96 definitions", counted(b".") == 96),
-        ("64 nodes", table.nodes().len() == 64),
-        ("16 labels", table.nodes().iter().any(labels)),
-        ("4 items", table.nodes().iter().any(items)),
-        ("16 open brackets", most_open == 16),
-        ("a word of 16 bytes", text.split(|byte| !in_word(byte)).any(|word| word.len() == 16)),
+    let reached = [
+        text.len() == 4096,
+        counted(b".") == 96,
+        table.nodes().len() == 64,
+        table.nodes().iter().any(labels),
+        table.nodes().iter().any(items),
+        most_open == 16,
+        text.split(|byte| !in_word(byte)).any(|word| word.len() == 16),
     ];
-    all.iter().filter(|(_, reached)| *reached).map(|(limit, _)| *limit).collect()
+    LIMITS
+        .into_iter()
+        .zip(reached)
+        .filter_map(|(limit, reached)| reached.then_some(limit))
+        .collect()
 }
 
 /// What the byte after these begins, judged by the last token before it.
 fn one_too_many(before: &[u8]) -> &'static str {
+    let [definition, label, item, node] = ONE_MORE;
     match before.iter().rfind(|byte| !b" \t\n\r".contains(byte)) {
-        Some(b'.') => "definition",
-        Some(b'{' | b'|') => "label",
-        Some(b',') => "item, or node as an item",
-        _ => "node",
+        Some(b'.') => definition,
+        Some(b'{' | b'|') => label,
+        Some(b',') => item,
+        _ => node,
     }
 }

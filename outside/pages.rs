@@ -1,18 +1,17 @@
 //! The compiled library at the edges of its areas: `pages [count] [seed]`, to be
-//! run by itself and under valgrind. Texts and areas have just the lengths that
-//! they need and end where a page ends that nobody may touch behind; what stands
-//! before them is painted, and compared after every call. Each area is also made
-//! one too short: then nothing may be written at all.
+//! run by itself and under valgrind. Texts and areas end where a page ends that
+//! nobody may touch behind; what stands before them is painted, and so are the
+//! areas, and compared after every call. The areas have just the lengths that are
+//! needed, then some more, then each in turn is one too short: then nothing may be
+//! written at all.
 
-#[allow(dead_code)]
-mod generator;
 #[allow(dead_code)]
 mod proved;
 
 use std::ffi::c_void;
 
 use generator::{Generator, Input};
-use proved::Question;
+use proved::{NoLine, Question};
 
 extern "C" {
     fn mmap(
@@ -93,6 +92,12 @@ type Sizes = [usize; 4];
 /// How many bytes an element of each has.
 const WIDTHS: Sizes = [1, 2, 2, 1];
 
+/// How many more than needed are lent, where more are.
+const MORE: usize = 5;
+
+/// The line's place among the areas.
+const LINE: usize = 3;
+
 struct Edges {
     texts: [Edge; 2],
     areas: [Edge; 4],
@@ -101,7 +106,7 @@ struct Edges {
 impl Edges {
     fn new() -> Edges {
         let most = sizes(64, 128);
-        let area = |at: usize| Edge::new(most[at] * WIDTHS[at] + 1);
+        let area = |at: usize| Edge::new((most[at] + MORE) * WIDTHS[at] + 1);
         Edges {
             texts: [Edge::new(PAGE), Edge::new(PAGE)],
             areas: [area(0), area(1), area(2), area(3)],
@@ -109,7 +114,7 @@ impl Edges {
     }
 
     /// Asks with areas of these sizes.
-    fn ask(&mut self, question: Question, input: &Input, lent: Sizes) -> Result<usize, usize> {
+    fn ask(&mut self, question: Question, input: &Input, lent: Sizes) -> Result<usize, NoLine> {
         let new = self.texts[0].holding(&input.first);
         let old = self.texts[1].holding(&input.second);
         let at = [0, 1, 2, 3].map(|area| self.areas[area].last(lent[area] * WIDTHS[area]));
@@ -124,25 +129,42 @@ impl Edges {
         }
     }
 
-    /// Whether the texts, and what stands before each area, are as they were.
-    fn around_kept(&mut self, input: &Input, lent: Sizes) -> bool {
-        let texts = [&input.first, &input.second];
-        let kept = (0..2).all(|at| {
-            let text = texts[at];
-            let edge = &mut self.texts[at];
-            edge.painted_before(text.len()) && edge.all().ends_with(text)
-        });
-        kept && (0..4).all(|area| self.areas[area].painted_before(lent[area] * WIDTHS[area]))
+    /// The same with the line's area alone.
+    fn ask_own(&mut self, question: Question, input: &Input, line: usize) -> Result<usize, NoLine> {
+        let new = self.texts[0].holding(&input.first);
+        let old = self.texts[1].holding(&input.second);
+        let at = self.areas[LINE].last(line);
+        let line = unsafe { std::slice::from_raw_parts_mut(at, line) };
+        proved::line_own(question, new, old, line)
     }
 
-    /// Whether the areas themselves are as they were, from an element on.
-    fn areas_kept(&mut self, from: [usize; 4], lent: Sizes) -> bool {
-        (0..4).all(|area| {
-            let edge = &mut self.areas[area];
-            let kept = (lent[area] - from[area]) * WIDTHS[area];
-            let begin = edge.length - kept;
-            edge.all()[begin..].iter().all(|byte| *byte == PAINT)
-        })
+    /// Whether the texts, and what stands before them, are as they were.
+    fn texts_kept(&mut self, input: &Input) -> bool {
+        let texts = [&input.first, &input.second];
+        texts
+            .iter()
+            .zip(&mut self.texts)
+            .all(|(text, edge)| edge.painted_before(text.len()) && edge.all().ends_with(text))
+    }
+
+    /// Whether what stands before an area is as it was, and so is the area itself
+    /// from an element on.
+    fn area_kept(&mut self, area: usize, from: usize, lent: usize) -> bool {
+        let edge = &mut self.areas[area];
+        let begin = edge.length - (lent - from) * WIDTHS[area];
+        edge.painted_before(lent * WIDTHS[area])
+            && edge.all()[begin..].iter().all(|byte| *byte == PAINT)
+    }
+
+    fn kept(&mut self, input: &Input, from: Sizes, lent: Sizes) -> bool {
+        self.texts_kept(input) && (0..4).all(|area| self.area_kept(area, from[area], lent[area]))
+    }
+
+    /// The line's area begins with this line.
+    fn holds(&mut self, line: &[u8], lent: usize) -> bool {
+        let edge = &mut self.areas[LINE];
+        let begin = edge.length - lent;
+        edge.all()[begin..].starts_with(line)
     }
 }
 
@@ -180,39 +202,66 @@ fn needed(question: Question, input: &Input) -> Sizes {
     sizes(new.nodes().len(), old.nodes().len())
 }
 
-/// With just what is needed, and with each area one too short. How many calls
-/// that were.
+/// How much of each area is written for a line. "path untouched" after yes; after no
+/// "the path holds the steps and beyond them is untouched"; where a text is refused
+/// all three are.
+fn written(line: &[u8], need: Sizes) -> Sizes {
+    let fields = line.split(|byte| *byte == b' ').count();
+    match line[0] {
+        b'y' => [need[0], 0, need[2], line.len()],
+        b'n' => [need[0], fields - 6, need[2], line.len()],
+        _ => [0, 0, 0, line.len()],
+    }
+}
+
+/// Asks in areas of every kind. How many calls that were.
 fn try_sizes(edges: &mut Edges, question: Question, input: &Input) -> usize {
     let need = needed(question, input);
-    let expected = match question {
+    let line = match question {
         Question::Verdict => plain::verdict_line(&input.first, &input.second),
         Question::Compatible => plain::compatible_line(&input.first, &input.second),
     };
-    let length = edges.ask(question, input, need).expect("the areas are long enough");
-    let line = &edges.areas[3].all().to_vec();
-    let begin = line.len() - need[3];
-    assert_eq!(line[begin..begin + length], expected[..], "{}", input.kind);
-    assert!(edges.around_kept(input, need), "{}: written beside", input.kind);
-    // "path untouched" after yes; after no "the path holds the steps and beyond them is untouched".
-    let fields = expected.split(|byte| *byte == b' ').count();
-    let used = match expected[0] {
-        b'y' => [need[0], 0, need[2], length],
-        b'n' => [need[0], fields - 6, need[2], length],
-        _ => [0, 0, 0, length],
-    };
-    assert!(edges.areas_kept(used, need), "{}: written behind", input.kind);
-    let mut calls = 1;
-    for area in 0..4 {
-        if need[area] == 0 {
-            continue;
-        }
-        let mut lent = need;
-        lent[area] -= 1;
-        let answer = edges.ask(question, input, lent);
-        assert_eq!(answer, Err(area + 1), "{}", input.kind);
-        assert!(edges.around_kept(input, lent), "{}: written beside after 11", input.kind);
-        assert!(edges.areas_kept([0; 4], lent), "{}: written after 11", input.kind);
+    let mut calls = 0;
+    for lent in [need, need.map(|length| length + MORE)] {
+        assert_eq!(edges.ask(question, input, lent), Ok(line.len()), "{}", input.kind);
+        assert!(edges.holds(&line, lent[LINE]), "{}: another line", input.kind);
+        assert!(edges.kept(input, written(&line, need), lent), "{}: written beside", input.kind);
         calls += 1;
     }
-    calls
+    for area in (0..4).filter(|area| need[*area] > 0) {
+        let mut lent = need;
+        lent[area] -= 1;
+        assert_eq!(
+            edges.ask(question, input, lent),
+            Err(NoLine::Short(area + 1)),
+            "{}",
+            input.kind
+        );
+        assert!(edges.kept(input, [0; 4], lent), "{}: written after 11", input.kind);
+        calls += 1;
+    }
+    calls + try_own(edges, question, input, need[LINE], &line)
+}
+
+/// The same where the line's area alone is lent.
+fn try_own(
+    edges: &mut Edges,
+    question: Question,
+    input: &Input,
+    need: usize,
+    line: &[u8],
+) -> usize {
+    assert_eq!(edges.ask_own(question, input, need), Ok(line.len()), "{}", input.kind);
+    assert!(edges.holds(line, need), "{}: another line in areas of its own", input.kind);
+    let kept = edges.texts_kept(input) && edges.area_kept(LINE, line.len(), need);
+    assert!(kept, "{}: written beside, in areas of its own", input.kind);
+    assert_eq!(
+        edges.ask_own(question, input, need - 1),
+        Err(NoLine::Short(LINE + 1)),
+        "{}",
+        input.kind
+    );
+    let kept = edges.texts_kept(input) && edges.area_kept(LINE, 0, need - 1);
+    assert!(kept, "{}: written after 11, in areas of its own", input.kind);
+    2
 }

@@ -94,12 +94,25 @@ impl Areas {
     }
 }
 
-/// The line's length, or the position of the area that is too short.
-pub fn line(question: Question, new: &[u8], old: &[u8], areas: &mut Areas) -> Result<usize, usize> {
+/// What is told instead of a line's length: the position of the area that is too
+/// short; or two numbers that are never to be told.
+#[derive(Clone, Copy, PartialEq, Eq, Debug)]
+pub enum NoLine {
+    Short(usize),
+    Wrong { length: usize, area: usize },
+}
+
+/// The line's length.
+pub fn line(
+    question: Question,
+    new: &[u8],
+    old: &[u8],
+    areas: &mut Areas,
+) -> Result<usize, NoLine> {
     line_in(question, new, old, areas.lent())
 }
 
-pub fn line_in(question: Question, new: &[u8], old: &[u8], lent: Lent) -> Result<usize, usize> {
+pub fn line_in(question: Question, new: &[u8], old: &[u8], lent: Lent) -> Result<usize, NoLine> {
     let mut area = usize::MAX;
     let ask = match question {
         Question::Verdict => dzaghvori_verdict,
@@ -131,7 +144,7 @@ pub fn line_own(
     new: &[u8],
     old: &[u8],
     line: &mut [u8],
-) -> Result<usize, usize> {
+) -> Result<usize, NoLine> {
     let mut area = usize::MAX;
     let ask = match question {
         Question::Verdict => dzaghvori_verdict_own,
@@ -151,10 +164,10 @@ pub fn line_own(
     answer(length, area)
 }
 
-fn answer(length: usize, area: usize) -> Result<usize, usize> {
-    match area {
-        0 => Ok(length),
-        1..=4 if length == 0 => Err(area),
-        _ => panic!("length {length} and area {area}"),
+fn answer(length: usize, area: usize) -> Result<usize, NoLine> {
+    match (length, area) {
+        (1.., 0) => Ok(length),
+        (0, 1..=4) => Err(NoLine::Short(area)),
+        _ => Err(NoLine::Wrong { length, area }),
     }
 }

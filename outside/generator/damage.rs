@@ -41,15 +41,14 @@ pub const TOKENS: [&[u8]; 34] = [
     b"\x80",
 ];
 
-/// Bytes that may come instead of another; byte 0 is not among them, because it
-/// would end the first text.
-const BYTES: &[u8] = b"=.;:|,?!&+()[]{}ab_01AZ \t\n\r\x0b\x0c\x01\x7f\x80\xff@-";
+/// Bytes that may come instead of another.
+const BYTES: &[u8] = b"=.;:|,?!&+()[]{}ab_01AZ \t\n\r\x0b\x0c\x00\x01\x7f\x80\xff@-";
 
-pub fn any_byte_not_zero(random: &mut Random) -> u8 {
+pub fn any_byte(random: &mut Random) -> u8 {
     if random.chance(3, 4) {
         *random.pick(BYTES)
     } else {
-        random.between(1, 255) as u8
+        random.below(256) as u8
     }
 }
 
@@ -60,7 +59,7 @@ pub fn byte(random: &mut Random, text: &mut Vec<u8>) {
     }
     let place = random.below(text.len());
     match random.below(5) {
-        0 => text[place] = any_byte_not_zero(random),
+        0 => text[place] = any_byte(random),
         1 => {
             text.remove(place);
         }
@@ -69,7 +68,7 @@ pub fn byte(random: &mut Random, text: &mut Vec<u8>) {
             let next = (place + 1) % text.len();
             text.swap(place, next);
         }
-        _ => text.insert(place, any_byte_not_zero(random)),
+        _ => text.insert(place, any_byte(random)),
     }
 }
 

@@ -24,7 +24,6 @@ use written::{Text, Word};
 
 pub struct Input {
     pub kind: &'static str,
-    /// It never holds byte 0, so that both texts can go through one input.
     pub first: Vec<u8>,
     pub second: Vec<u8>,
 }
@@ -218,17 +217,17 @@ fn misnamed(random: &mut Random, misname: fn(&mut Random, &mut Text)) -> Pair {
 }
 
 fn random_bytes(random: &mut Random) -> Pair {
-    (noise::bytes(random, false), noise::bytes(random, true))
+    (noise::bytes(random), noise::bytes(random))
 }
 
 fn random_bytes_beside(random: &mut Random) -> Pair {
     let good = small_bytes(random);
     if random.chance(1, 3) {
-        return (noise::bytes(random, false), good);
+        return (noise::bytes(random), good);
     }
     // After a good text too: blanks alone leave it good.
     let mut second = if random.chance(1, 2) { good.clone() } else { Vec::new() };
-    second.extend(noise::bytes(random, true));
+    second.extend(noise::bytes(random));
     (good, second)
 }
 

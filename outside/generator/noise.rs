@@ -1,18 +1,18 @@
 //! Bytes and tokens by chance.
 
 use super::blanks::{joined, BLANKS};
-use super::damage::{any_byte_not_zero, TOKENS};
+use super::damage::{any_byte, TOKENS};
 use super::random::Random;
 
-/// Random bytes; byte 0 only if it is allowed, as in a second text.
-pub fn bytes(random: &mut Random, zero_allowed: bool) -> Vec<u8> {
+/// Random bytes.
+pub fn bytes(random: &mut Random) -> Vec<u8> {
     let length = if random.chance(1, 200) { random.between(4000, 4200) } else { random.below(40) };
     let way = random.below(4);
     let byte = |_| match way {
         0 => *random.pick(BLANKS),
-        1 if zero_allowed => random.below(256) as u8,
-        2 if zero_allowed && random.chance(1, 10) => 0,
-        _ => any_byte_not_zero(random),
+        1 => random.below(256) as u8,
+        2 if random.chance(1, 10) => 0,
+        _ => any_byte(random),
     };
     (0..length).map(byte).collect()
 }

@@ -1,8 +1,9 @@
-// What the benchmarks time of the parts below the printed line, through C. Each answers a number that depends on what was done, so that none of
-// it can be left out.
+// What the benchmarks time of the parts below the printed line, through C. Each answers a number that depends on what was made, so that the
+// compiler can leave none of it out.
 use dual::dual;
 use reader::read;
 use replace::may_replace;
+use table::NODES_MOST;
 use table::answers::Verdict;
 
 // The nodes of a text's table.
@@ -12,18 +13,20 @@ pub extern "C" fn timed_read(text: &[u8]) -> usize {
     made.table.count as usize
 }
 
-// The nodes of the dual of a text's table, made so many times.
+// The dual of a text's table, made so many times. What is answered is read from another of its nodes each time.
 #[no_mangle]
 pub extern "C" fn timed_dual(text: &[u8], times: usize) -> usize {
     let made = read(text);
-    let mut nodes = 0;
+    let mut seen = 0;
     let mut i = 0;
     while i < times {
         let turned = dual(made.table, text);
-        nodes = turned.table.count as usize;
+        let t = turned.table;
+        let x = t.nodes[i % NODES_MOST];
+        seen = seen % NODES_MOST + x.next as usize;
         i += 1;
     }
-    nodes
+    seen
 }
 
 // The marks after a yes, or the steps after a no.

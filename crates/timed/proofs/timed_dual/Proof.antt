@@ -6,10 +6,10 @@ use Rattle.timed.proofs.timed_dual.Statement.{statement}
 use Rattle.timed.proofs.timed_dual.Tie as tie
 
 abbrev Inv-loop : tie.InvT-loop
-Inv-loop text times made nodes₀ i₀ nodes i = Unit {0}
+Inv-loop text times made seen₀ i₀ seen i = Unit {0}
 
 abbrev μ-loop : tie.MeasureT-loop
-μ-loop text times made nodes₀ i₀ nodes i = times - i
+μ-loop text times made seen₀ i₀ seen i = times - i
 
 read-requires : tie.Need-read-requires Inv-loop μ-loop
 read-requires c κs = search needs
@@ -20,8 +20,17 @@ loop-holds c = search needs
 dual-requires : tie.Need-dual-requires Inv-loop μ-loop
 dual-requires c κs = search needs
 
-cast-nodes : tie.Need-cast-nodes Inv-loop μ-loop
-cast-nodes c = search needs
+mul-x : tie.Need-mul-x Inv-loop μ-loop
+mul-x c = search needs
+
+element-copy-out-x : tie.Need-element-copy-out-x Inv-loop μ-loop
+element-copy-out-x c = search needs
+
+cast-seen : tie.Need-cast-seen Inv-loop μ-loop
+cast-seen c = search needs
+
+add-seen : tie.Need-add-seen Inv-loop μ-loop
+add-seen c = search needs
 
 add-i : tie.Need-add-i Inv-loop μ-loop
 add-i c = search needs
@@ -36,4 +45,4 @@ returns : tie.Need-returns Inv-loop μ-loop
 returns c = search needs
 
 pub timed-dual-spec : {M : Type 1} → statement M
-timed-dual-spec = tie.close (tie.spec Inv-loop μ-loop read-requires loop-holds dual-requires cast-nodes add-i loop-less loop-again returns)
+timed-dual-spec = tie.close (tie.spec Inv-loop μ-loop read-requires loop-holds dual-requires mul-x element-copy-out-x cast-seen add-seen add-i loop-less loop-again returns)
