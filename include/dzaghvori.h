@@ -40,7 +40,7 @@ extern "C" {
  * leave them; where a text is refused they stay as they were.
  *
  * Where an area is too short for the two texts' tables, the function returns 0, `*area` is the position of the least such area (1 marks, 2
- * path, 3 scratch, 4 line: document 01's refusal 11 and its place), and nothing else is written. */
+ * path, 3 scratch, as in document 01's refusal 11, and 4 line), and nothing else is written. */
 size_t dzaghvori_verdict(const uint8_t *new_text, size_t new_length, const uint8_t *old_text, size_t old_length, uint8_t *marks,
                          size_t marks_length, uint16_t *path, size_t path_length, uint16_t *scratch, size_t scratch_length, uint8_t *line,
                          size_t line_length, size_t *area);
@@ -56,7 +56,8 @@ size_t dzaghvori_compatible(const uint8_t *new_text, size_t new_length, const ui
 size_t dzaghvori_verdict_own(const uint8_t *new_text, size_t new_length, const uint8_t *old_text, size_t old_length, uint8_t *line,
                              size_t line_length, size_t *area);
 
-/* The same as dzaghvori_compatible, with marks, path and scratch of its own, likewise. */
+/* The same as dzaghvori_compatible, with marks, path and scratch of its own. The line alone can be too short: then 0 is returned, `*area` is 4, and
+ * nothing else is written. */
 size_t dzaghvori_compatible_own(const uint8_t *new_text, size_t new_length, const uint8_t *other_text, size_t other_length, uint8_t *line,
                                 size_t line_length, size_t *area);
 

@@ -3,14 +3,13 @@
 use mathlib.Core.List.{List}
 use mathlib.Core.Path.{_≡_, ap}
 use Prim.Native.Nat.{ℕ, _*_, _<_, _≤_}
-use native.Mathlib.Nat.{mul-le-mul}
 use native.Mathlib.Omega.{arith}
 use lib.ListN.{length}
 use Rattle.rules.specs.Numbers.{text-nodes-most}
 use Rattle.rules.specs.Pairs.{turns-most}
 use Rattle.rules.specs.Line.{Question}
 use Rattle.rules.specs.Writing.{LineAreas, lengths, Counts, LeastShort, marks-short, path-short, scratch-short, line-short as the-line, WritesLine, refuses, writes, line-size}
-use Rattle.rules.proofs.OwnAreas.{against-most, counts-few}
+use Rattle.rules.proofs.OwnAreas.{against-most, counts-few, fewer-pairs}
 use Rattle.table.specs.declared.answers.Written.{Written}
 use Rattle.harness.specs.Told.{Told, a-line, too-short, TellsOwn, line-short, line-written}
 
@@ -25,16 +24,13 @@ module _ {q : Question} {new-text old-text : List ℕ} {before : LineAreas} (E :
       {n m p : ℕ} → Counts q new-text old-text n m → LeastShort n m (lengths before) p → (p ≡ 4) × (length (before .line) < line-size n m)
   line-alone {n} {m} C s = go s
     where
-      two : turns-most * n * m ≤ turns-most * text-nodes-most * against-most q
-      two = let l : turns-most * n ≤ turns-most * text-nodes-most = omega (arith, counts-few C .0) in mul-le-mul l (counts-few C .1)
-
-      four : 4 * n * m ≤ 4 * text-nodes-most * against-most q
-      four = let l : 4 * n ≤ 4 * text-nodes-most = omega (arith, counts-few C .0) in mul-le-mul l (counts-few C .1)
+      fewer : (k : ℕ) → k * n * m ≤ k * text-nodes-most * against-most q
+      fewer k = fewer-pairs k (counts-few C .0) (counts-few C .1)
 
       go : {p : ℕ} → LeastShort n m (lengths before) p → (p ≡ 4) × (length (before .line) < line-size n m)
-      go (marks-short a) = absurd (omega (arith, a, two, E .marks-long))
-      go (path-short a b) = absurd (omega (arith, b, two, E .path-long))
-      go (scratch-short a b c) = absurd (omega (arith, c, four, E .scratch-long))
+      go (marks-short a) = absurd (omega (arith, a, fewer turns-most, E .marks-long))
+      go (path-short a b) = absurd (omega (arith, b, fewer turns-most, E .path-long))
+      go (scratch-short a b c) = absurd (omega (arith, c, fewer 4, E .scratch-long))
       go (the-line a b c d) = (omega arith, d)
 
   pub tells-own :

@@ -36,17 +36,18 @@ pub counts-few :
     {q : Question} {new-text old-text : List ℕ} {n m : ℕ} → Counts q new-text old-text n m → (n ≤ text-nodes-most) × (m ≤ against-most q)
 counts-few {q} C = (rw (C .new-count) (new-few (C .first-read)), rw (C .old-count) (old-few q (C .second-read)))
 
+-- fewer nodes have fewer pairs, whatever stands for each
+pub fewer-pairs : {n m n′ m′ : ℕ} (k : ℕ) → n′ ≤ n → m′ ≤ m → k * n′ * m′ ≤ k * n * m
+fewer-pairs {n} {n′} k a b = let l : k * n′ ≤ k * n = mul-le-mul (omega arith) a in mul-le-mul l b
+
 -- areas for so many nodes are long enough for fewer
 pub fewer-long : {n m n′ m′ : ℕ} {k : Lengths} → n′ ≤ n → m′ ≤ m → AllLong n m k → AllLong n′ m′ k
-fewer-long {n} {m} {n′} {m′} a b L =
-    let two : turns-most * n′ * m′ ≤ turns-most * n * m = mul-le-mul (mul-le-mul (omega arith) a) b in
-    let four : 4 * n′ * m′ ≤ 4 * n * m = mul-le-mul (mul-le-mul (omega arith) a) b in
-    let six : 6 * n′ * m′ ≤ 6 * n * m = mul-le-mul (mul-le-mul (omega arith) a) b in
+fewer-long a b L =
     record {
-      marks-long = omega (arith, two, L .marks-long);
-      path-long = omega (arith, two, L .path-long);
-      scratch-long = omega (arith, four, L .scratch-long);
-      line-long = omega (arith, six, L .line-long);
+      marks-long = omega (arith, fewer-pairs turns-most a b, L .marks-long);
+      path-long = omega (arith, fewer-pairs turns-most a b, L .path-long);
+      scratch-long = omega (arith, fewer-pairs 4 a b, L .scratch-long);
+      line-long = omega (arith, fewer-pairs 6 a b, L .line-long);
     }
 
 module _ {q : Question} {new-text old-text : List ℕ} {before after : LineAreas} where
