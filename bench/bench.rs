@@ -4,6 +4,8 @@
 #[path = "../outside/proved.rs"]
 #[allow(dead_code)]
 mod proved;
+#[path = "../outside/second.rs"]
+mod second;
 #[path = "../outside/stack.rs"]
 mod stack;
 mod texts;
@@ -161,20 +163,12 @@ fn verdict(new: &[u8], old: &[u8], areas: &mut Areas) -> [Time; 2] {
 }
 
 fn line(question: Question, new: &[u8], old: &[u8], areas: &mut Areas) -> [Time; 2] {
-    let plain_line = plain_line(question);
     beside(
         &mut |times| {
             (0..times).for_each(|_| keep(proved::line(question, black_box(new), old, areas)))
         },
-        &mut |times| (0..times).for_each(|_| keep(plain_line(black_box(new), old))),
+        &mut |times| (0..times).for_each(|_| keep(second::line(question, black_box(new), old))),
     )
-}
-
-fn plain_line(question: Question) -> fn(&[u8], &[u8]) -> Vec<u8> {
-    match question {
-        Question::Verdict => plain::verdict_line,
-        Question::Compatible => plain::compatible_line,
-    }
 }
 
 fn times(cases: &[Case], areas: &mut Areas) {
@@ -259,7 +253,7 @@ fn answers(cases: &[Case], areas: &mut Areas) {
     for case in cases {
         for question in [Question::Verdict, Question::Compatible] {
             let [new, old] = case.texts(question);
-            let expected = plain_line(question)(new, old);
+            let expected = second::line(question, new, old);
             let length = proved::line(question, new, old, areas);
             assert_eq!(
                 length.map(|length| &areas.line[..length]),
@@ -267,18 +261,15 @@ fn answers(cases: &[Case], areas: &mut Areas) {
                 "{}",
                 case.name
             );
-            let [first, second] = [new, old].map(|text| plain::read(text).expect("a good text"));
-            let second = match question {
-                Question::Verdict => second,
-                Question::Compatible => plain::dual(&second).expect("a text has at most 64 nodes"),
-            };
+            let tables = second::tables(question, new, old).expect("good texts");
+            let [first, second] = tables.map(|table| table.nodes().len());
             println!(
                 "| {} | {question:?} | {}, {} | {} × {} | {} |",
                 case.name,
                 new.len(),
                 old.len(),
-                first.nodes().len(),
-                second.nodes().len(),
+                first,
+                second,
                 begin(&expected)
             );
         }
@@ -288,7 +279,7 @@ fn answers(cases: &[Case], areas: &mut Areas) {
 fn main() {
     let examples = std::env::args().nth(1).expect("the folder of the examples");
     let cases = cases(&examples);
-    let mut areas = Areas::sized(64, 128);
+    let mut areas = Areas::enough();
     answers(&cases, &mut areas);
     times(&cases, &mut areas);
     growth(&mut areas);

@@ -5,15 +5,12 @@
 
 mod met;
 mod proved;
+mod second;
 
 use generator::{Generator, Input};
 use met::Met;
 use plain::Verdict;
 use proved::{Areas, Question};
-
-/// The most nodes of a text, and of a dual.
-const TEXT_NODES: usize = 64;
-const DUAL_NODES: usize = 128;
 
 /// In every so many inputs the form that lends its own areas is asked too.
 const OWN_EVERY: u64 = 8;
@@ -24,13 +21,13 @@ fn main() {
     let seed = arguments.next().unwrap_or(1);
     println!("{count} inputs from seed {seed}");
     let mut generator = Generator::new(seed);
-    let mut areas = Areas::sized(TEXT_NODES, DUAL_NODES);
+    let mut areas = Areas::enough();
     let mut met = Met::default();
     for at in 0..count {
         let input = generator.next();
         for (column, question) in [Question::Verdict, Question::Compatible].into_iter().enumerate()
         {
-            let expected = expected_line(question, &input);
+            let expected = second::line(question, &input.first, &input.second);
             met.count_line(column, &expected);
             compare(question, &input, &expected, &mut areas);
             if at % OWN_EVERY == 0 {
@@ -47,13 +44,6 @@ fn main() {
         std::process::exit(1);
     }
     println!("no difference in {count} inputs, for both questions");
-}
-
-fn expected_line(question: Question, input: &Input) -> Vec<u8> {
-    match question {
-        Question::Verdict => plain::verdict_line(&input.first, &input.second),
-        Question::Compatible => plain::compatible_line(&input.first, &input.second),
-    }
 }
 
 /// The line, and behind a verdict what the areas hold.
@@ -94,11 +84,7 @@ struct Kept {
 impl Kept {
     /// Nothing where a text is refused.
     fn by_plain(question: Question, input: &Input) -> Option<Kept> {
-        let (new, old) = (plain::read(&input.first).ok()?, plain::read(&input.second).ok()?);
-        let old = match question {
-            Question::Verdict => old,
-            Question::Compatible => plain::dual(&old).expect("a text has at most 64 nodes"),
-        };
+        let [new, old] = second::tables(question, &input.first, &input.second)?;
         let (marks, steps) = match plain::may_replace(&new, &input.first, &old, &input.second) {
             Verdict::Yes { marks, .. } => (marks.into_iter().map(u8::from).collect(), Vec::new()),
             Verdict::No { run, .. } => (vec![0; 2 * new.nodes().len() * old.nodes().len()], run),

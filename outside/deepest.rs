@@ -16,7 +16,7 @@ fn main() {
     let mut arguments = std::env::args().skip(1).map(|word| word.parse::<u64>().expect("a number"));
     let count = arguments.next().unwrap_or(2000);
     let seed = arguments.next().unwrap_or(1);
-    let mut areas = Areas::sized(64, 128);
+    let mut areas = Areas::enough();
     let mut stack = Stack::new();
     // Each message is read inside the one before it; the last is one too many.
     let messages = format!("A = {}A .", "?(string);".repeat(65));

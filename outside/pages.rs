@@ -7,6 +7,7 @@
 
 #[allow(dead_code)]
 mod proved;
+mod second;
 
 use std::ffi::c_void;
 
@@ -192,14 +193,10 @@ fn main() {
 
 /// The node counts that the sizes are for: a refused text has none.
 fn needed(question: Question, input: &Input) -> Sizes {
-    let (Ok(new), Ok(old)) = (plain::read(&input.first), plain::read(&input.second)) else {
-        return sizes(0, 0);
-    };
-    let old = match question {
-        Question::Verdict => old,
-        Question::Compatible => plain::dual(&old).expect("a text has at most 64 nodes"),
-    };
-    sizes(new.nodes().len(), old.nodes().len())
+    match second::tables(question, &input.first, &input.second) {
+        Some([new, old]) => sizes(new.nodes().len(), old.nodes().len()),
+        None => sizes(0, 0),
+    }
 }
 
 /// How much of each area is written for a line. "path untouched" after yes; after no
@@ -217,10 +214,7 @@ fn written(line: &[u8], need: Sizes) -> Sizes {
 /// Asks in areas of every kind. How many calls that were.
 fn try_sizes(edges: &mut Edges, question: Question, input: &Input) -> usize {
     let need = needed(question, input);
-    let line = match question {
-        Question::Verdict => plain::verdict_line(&input.first, &input.second),
-        Question::Compatible => plain::compatible_line(&input.first, &input.second),
-    };
+    let line = second::line(question, &input.first, &input.second);
     let mut calls = 0;
     for lent in [need, need.map(|length| length + MORE)] {
         assert_eq!(edges.ask(question, input, lent), Ok(line.len()), "{}", input.kind);

@@ -78,8 +78,9 @@ pub struct Areas {
 }
 
 impl Areas {
-    /// For tables of n and m nodes, full of anything.
-    pub fn sized(n: usize, m: usize) -> Areas {
+    /// For every two texts, of 64 nodes each and a dual of 128; full of anything.
+    pub fn enough() -> Areas {
+        let (n, m) = (64, 128);
         Areas {
             marks: vec![0xa5; 2 * n * m],
             path: vec![0xa5a5; 2 * n * m],
