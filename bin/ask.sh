@@ -1,20 +1,29 @@
-# What bin/verdict and bin/compatible share. They set `self`, `name` and `usage`, source this file, and call `ask` with their arguments.
+# What bin/verdict and bin/compatible share. They set `self`, `name`, `second` and `question`, source this file, and call `ask` with their
+# arguments.
 # shellcheck shell=bash
-: "${self:?}" "${name:?}" "${usage:?}"
+: "${self:?}" "${name:?}" "${second:?}" "${question:?}"
 
 root=${self%/bin/*}
-program=$root/target/bin/$name
+
+# No text of more bytes is a description: whatever comes behind them, it is refused.
+text_most=4096
 
 # The status is 2 until a whole line has been read from the program and printed. Whatever else ends the shell on the way, a command that is
 # missing, a full disk, a signal, must not look like a verdict.
 status=2
-room=
-trap 'rm -rf -- ${room:+"$room"} || status=2; exit "$status"' EXIT
+trap '[[ -z ${watcher-} ]] || end_progress; exit "$status"' EXIT
 
 fail() { # MESSAGE
     printf '%s: %s\n' "$name" "$1" >&2
     exit 2
 }
+
+# shellcheck source=bin/machine.sh
+source "$root/bin/machine.sh" || exit
+# shellcheck source=bin/build.sh
+source "$root/bin/build.sh" || exit
+# shellcheck source=bin/usage.sh
+source "$root/bin/usage.sh" || exit
 
 # Prints on standard output, or fails. A reader that has gone is a failed write and not a signal.
 print() { # TEXT
@@ -22,47 +31,73 @@ print() { # TEXT
     printf '%s\n' "$1" 2>/dev/null || fail 'cannot write to standard output'
 }
 
-# Adds a whole file to the input. It is opened here and not by its name, which may begin with `-`.
-take() { # FILE
+# Prints the bytes of a file that count, in base64: a variable holds no byte 0, and a temporary file could be left behind. The file is opened
+# here and not by its name, which may begin with `-`.
+taken() { # FILE
     local said
-    said=$({ cat <"$1" >>"$room/input"; } 2>&1) || fail "cannot read the whole of $1: ${said##*: }"
+    { said=$({ head -c "$((text_most + 1))" <"$1" >&3; } 2>&1) || fail "cannot read $1: ${said##*: }"; } 3>&1 | base64 -w 0
 }
 
-build() {
-    printf '%s: %s\n' "$name" "target/bin/$name is not built yet. The first build proves everything, which takes about four minutes." >&2
-    # What rt has built and then found wanting is not kept: the next call would ask it.
-    (cd -- "$root" && rt check "$name") </dev/null >&2 || { rm -f -- "$program"; fail "rt check $name failed, so there is no program to ask"; }
-    [[ -x $program ]] || fail "rt check $name has not built target/bin/$name"
-}
+decoded() { printf '%s' "$1" | base64 -d; } # BASE64
 
-# Sets `line` to what the program printed, if that is one whole line of one of the three forms and nothing besides.
-read_line() {
-    local number='(0|[1-9][[:digit:]]*)'
+# Sets `line` to what the program prints for the two texts, if it ends well and that is one whole line of one of the three forms and nothing
+# besides.
+ask_program() { # NEW OLD, in base64
+    local said number='(0|[1-9][[:digit:]]*)'
     local forms="^(yes $number|no( $number){5,}|refused( $number){3})$"
-    IFS= read -r line <"$room/line" &&
-        (($(wc -c <"$room/line") == ${#line} + 1)) &&
-        [[ $line =~ $forms ]]
+    said=$({ decoded "$1" && printf '\0' && decoded "$2"; } | run "$program" | LC_ALL=C tr '\0' '?' && printf .) || return
+    line=${said%$'\n.'}
+    [[ $said == "$line"$'\n.' && $line =~ $forms ]]
+}
+
+# Prints the commit and the toolchain's identity, as a certificate names them.
+version() {
+    local top commit changed with
+    top=$(git rev-parse --show-toplevel 2>&1) || fail "git cannot tell which commit $root is: ${top##*fatal: }"
+    [[ $top == "$root" ]] || fail "$root is no git checkout of its own, so its commit is not known"
+    commit=$(git rev-parse HEAD) && changed=$(git --no-optional-locks status --porcelain -- bin crates crates.txt) ||
+        fail "git cannot tell which commit $root is"
+    if [[ -n $changed ]]; then
+        changed=$(sources) || fail "the sources of $root cannot be read"
+        changed=", with changes that are not committed: sources $changed"
+    fi
+    with=$(toolchain) && [[ -n $with ]] || fail 'rt is not on the PATH and has built no program here, so the toolchain is not known'
+    print "dzaghvori $commit$changed
+$with"
 }
 
 ask() { # ARGUMENTS
-    if [[ $# -eq 1 && $1 == --help ]]; then
-        print "$usage"
+    local new old there
+    case $#${1-} in
+    1--help)
+        print "$(usage)"
         status=0
         exit
-    fi
-    [[ $# -eq 2 ]] || fail "two files are asked for, and there are $# arguments
-$usage"
+        ;;
+    1--version)
+        cd -- "$root"
+        version
+        status=0
+        exit
+        ;;
+    esac
+    there="there are $# arguments"
+    [[ $# -ne 1 ]] || there='there is 1 argument'
+    [[ $# -eq 2 ]] || fail "two files are asked for, and $there
+$(usage)"
 
-    room=$(mktemp -d) || fail 'cannot make a temporary folder'
-    take "$1"
+    new=$(taken "$1") || exit
     # The program takes the first byte 0 for the end of the new text.
-    LC_ALL=C tr -d '\0' <"$room/input" | cmp -s - "$room/input" || fail "$1 holds a byte 0, which would end the new text there"
-    printf '\0' >>"$room/input" || fail 'cannot write a temporary file'
-    take "$2"
+    [[ $(decoded "$new" | LC_ALL=C tr -dc '\0' | wc -c) == 0 ]] ||
+        fail "$1 holds a byte 0, which would end the new text there (is it UTF-16? a description is plain ASCII)"
+    old=$(taken "$2") || exit
 
-    [[ -x $program ]] || build
-    "$program" <"$room/input" >"$room/line" || fail "the program failed with status $?"
-    read_line || fail 'the program did not print one line of a known form'
+    cd -- "$root"
+    current || build
+    if ! ask_program "$new" "$old" 2>/dev/null; then
+        build_again
+        ask_program "$new" "$old" || fail "$root/$program was built again and still does not print one line of a known form"
+    fi
     print "$line"
     case $line in
     yes*) status=0 ;;

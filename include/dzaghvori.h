@@ -12,6 +12,8 @@
  * - There is stack enough: at most 88,368 bytes were seen, and 145,616 for dzaghvori_verdict_own and 202,960 for dzaghvori_compatible_own, which
  *   have areas of their own there (docs/PERFORMANCE.md).
  *
+ * What a function returns is the length of the line and no verdict: that is the line's first word, `yes`, `no` or `refused`, and nothing else.
+ *
  * A text is at most 4,096 bytes long; a longer one is refused in the line, as every fault of a text is. It needs no byte 0 behind it.
  */
 #ifndef DZAGHVORI_H

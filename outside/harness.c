@@ -1,4 +1,10 @@
-/* The C interface as a program in C uses it: each function, both questions, a refused text and areas that are too short. */
+/* The C interface as a program in C uses it.
+ *
+ *     harness NEW OLD                  prints the line for two files; the status is that of bin/verdict: 0 yes, 1 no, 2 all else
+ *     harness --compatible NEW OTHER   the other question
+ *     harness --check                  tries each function, both questions, a refused text and areas that are too short: 0 if all is right, else 2
+ *
+ * Where no line is printed, one line on standard error says why. */
 #include "../include/dzaghvori.h"
 
 #include <stdio.h>
@@ -100,10 +106,47 @@ static void check_others(void) {
     check(all_are(line, 0, sizeof line, 0xa5), "and it stays");
 }
 
-int main(void) {
+static int run_checks(void) {
     check_verdict();
     check_short();
     check_others();
     printf("harness.c: %d checks, %d failures\n", checks, failures);
-    return failures != 0;
+    return failures == 0 ? 0 : 2;
+}
+
+static int fail(const char *what, const char *which) {
+    fprintf(stderr, "harness: %s%s\n", what, which);
+    return 2;
+}
+
+/* One byte more than a text may have: what comes behind them does not count, as such a text is refused. */
+enum { TEXT = 4096 + 1 };
+
+/* Reads the bytes of a file that count, and returns 0 where that fails. */
+static int read_text(const char *name, uint8_t *text, size_t *length) {
+    FILE *file = fopen(name, "rb");
+    if (file == NULL) return 0;
+    *length = fread(text, 1, TEXT, file);
+    int whole = !ferror(file);
+    fclose(file);
+    return whole;
+}
+
+static int ask(int compatible, const char *new_name, const char *old_name) {
+    static uint8_t new_text[TEXT], old_text[TEXT], answer[DZAGHVORI_LINE(DZAGHVORI_TEXT_NODES, DZAGHVORI_DUAL_NODES)];
+    size_t new_length, old_length, area;
+    if (!read_text(new_name, new_text, &new_length)) return fail("cannot read ", new_name);
+    if (!read_text(old_name, old_text, &old_length)) return fail("cannot read ", old_name);
+    size_t length = (compatible ? dzaghvori_compatible_own : dzaghvori_verdict_own)(new_text, new_length, old_text, old_length, answer,
+                                                                                   sizeof answer, &area);
+    if (length == 0) return fail("the line is too long", "");
+    if (fwrite(answer, 1, length, stdout) != length || fflush(stdout) != 0) return fail("cannot write to standard output", "");
+    return answer[0] == 'y' ? 0 : answer[0] == 'n' ? 1 : 2;
+}
+
+int main(int count, char **words) {
+    int compatible = count > 1 && strcmp(words[1], "--compatible") == 0;
+    if (count == 2 && strcmp(words[1], "--check") == 0) return run_checks();
+    if (count != 3 + compatible) return fail("usage: harness [--compatible] NEW OLD, or --check", "");
+    return ask(compatible, words[1 + compatible], words[2 + compatible]);
 }

@@ -1,12 +1,38 @@
 #!/usr/bin/env python3
-"""The proved library from Python: harness.py SHARED_OBJECT NEW OLD prints the line for two files; with --compatible before NEW, for the other
-question. harness.py SHARED_OBJECT --check asks for the rows of document 01's two tables, and for R and what faces it."""
+"""The proved library from Python.
 
-import ctypes
+usage: harness.py SHARED_OBJECT NEW OLD
+       harness.py SHARED_OBJECT --compatible NEW OTHER
+       harness.py SHARED_OBJECT --check
+
+Prints the line for two files. The exit status is that of bin/verdict: 0 for yes, 1 for no, and 2 for a refusal and for every failure, which is
+said in one line on standard error. With --check it asks for the rows of document 01's two tables, and for R and what faces it: 0 if all are
+right, and 2 otherwise."""
+
+import os
 import sys
 
+
+def give_up(_kind, failure, _trace):
+    """Ends with status 2 and one line. Python by itself would end with 1, which says no."""
+    said = " ".join(str(failure).split()) or type(failure).__name__
+    print(f"harness.py: {said}", file=sys.stderr, flush=True)
+    os._exit(2)
+
+
+if __name__ == "__main__":
+    sys.excepthook = give_up
+
+import ctypes
+import re
+
+TEXT_BYTES = 4096
 TEXT_NODES = 64
 DUAL_NODES = 128
+
+NUMBER = "(0|[1-9][0-9]*)"
+LINE = re.compile(f"(yes {NUMBER}|no( {NUMBER}){{5,}}|refused( {NUMBER}){{3}})\n")
+STATUS = {"yes": 0, "no": 1, "refused": 2}
 
 
 class Dzaghvori:
@@ -90,20 +116,39 @@ def check(library):
     return not wrong
 
 
+def read(name):
+    """The bytes of a file that count: a text of more than 4,096 is refused, whatever comes behind them."""
+    try:
+        with open(name, "rb") as file:
+            return file.read(TEXT_BYTES + 1)
+    except OSError as failure:
+        raise OSError(f"cannot read {name}: {failure.strerror}") from failure
+
+
+def write(line):
+    """Prints the whole line, or fails here and not when Python ends."""
+    try:
+        sys.stdout.write(line)
+        sys.stdout.flush()
+    except (AttributeError, OSError) as failure:  # without a standard output it is None
+        raise OSError("cannot write to standard output") from failure
+
+
 def main(arguments):
-    if len(arguments) == 2 and arguments[1] == "--check":
-        return 0 if check(Dzaghvori(arguments[0])) else 1
+    """The exit status."""
     compatible = arguments[1:2] == ["--compatible"]
     files = arguments[2:] if compatible else arguments[1:]
-    if not arguments or len(files) != 2:
-        sys.exit(__doc__)
+    if arguments[1:] == ["--check"]:
+        return 0 if check(Dzaghvori(arguments[0])) else 2
+    if len(files) != 2:
+        raise ValueError("usage: harness.py SHARED_OBJECT [--compatible] NEW OLD, or SHARED_OBJECT --check")
+    first, second = [read(name) for name in files]
     library = Dzaghvori(arguments[0])
-    texts = []
-    for name in files:
-        with open(name, "rb") as file:
-            texts.append(file.read())
-    print((library.compatible if compatible else library.verdict)(*texts), end="")
-    return 0
+    line = (library.compatible if compatible else library.verdict)(first, second)
+    if not LINE.fullmatch(line):
+        raise ValueError("the library gave no line of a known form")
+    write(line)
+    return STATUS[line.split()[0]]
 
 
 if __name__ == "__main__":
