@@ -53,6 +53,7 @@ ask_program() { # NEW OLD, in base64
 # Prints the commit and the toolchain's identity, as a certificate names them.
 version() {
     local top commit changed with
+    unset GIT_DIR GIT_WORK_TREE GIT_INDEX_FILE
     top=$(git rev-parse --show-toplevel 2>&1) || fail "git cannot tell which commit $root is: ${top##*fatal: }"
     [[ $top == "$root" ]] || fail "$root is no git checkout of its own, so its commit is not known"
     commit=$(git rev-parse HEAD) && changed=$(git --no-optional-locks status --porcelain -- bin crates crates.txt) ||
