@@ -29,7 +29,7 @@ built() { # TIMES WHEN: so often since `fresh`
     [ "$times" = "$1" ] || differs "rt built $times times and not $1 times $2"
 }
 # As the real rt: where its stamp is there, it builds nothing.
-builds="mkdir -p target/bin target/stamp; [ -e target/stamp/\$2 ] || cp '$stand/program' target/bin/\$2; : >target/stamp/\$2"
+builds="mkdir -p target/bin target/stamp; [ -e target/stamp/\$2 ] || { cp '$stand/program' target/bin/\$2; : >target/stamp/\$2; }"
 export PATH=$stand:$PATH
 cd "$tree" || exit
 
@@ -119,8 +119,11 @@ answers 'yes 7' 5 'where the program is another one'
 rm target/built/verdict
 answers 'yes 7' 6 'where the program was built by hand'
 rm target/built/verdict
-scripted target/bin/verdict 'kill -9 $$'
-answers 'yes 7' 8 'where the program was built by hand and does not run'
+scripted target/bin/verdict 'cat >/dev/null; echo yes 1'
+answers 'yes 7' 7 'where a program that was built by hand is another one'
+scripted target/bin/verdict 'cat >/dev/null; echo yes 1'
+echo more >>crates/below/src/lib.rt
+answers 'yes 7' 8 'where the program is another one and a source has changed that it does not need'
 programs 'echo yes 8'
 checks "rm -f target/stamp/\$2; $builds" # as rt does where a source has changed
 echo changed >crates/below/src/lib.rt
@@ -145,6 +148,34 @@ done
 checks "$builds"
 answers 'yes 8' 16 'where the sources are proved again'
 
+# What cannot be told is not taken for unchanged: an rt without a version beside an empty record, sources that are links
+: >target/built/verdict
+: >"$stand/identity"
+gives 2 '' bin/verdict "$R" "$R"
+echo 'kit 2' >"$stand/identity"
+mv crates/below/src/lib.rt elsewhere
+ln -s ../../../elsewhere crates/below/src/lib.rt
+gives 2 '' bin/verdict "$R" "$R"
+said 'some are links'
+mv elsewhere crates/below/src/lib.rt
+
+# A source that is changed while rt is at work, also one that is put back
+for change in 'echo meanwhile >>crates/below/src/lib.rt' 'mv crates/below/src/lib.rt kept; echo 1 >crates/below/src/lib.rt; sleep 0.1; mv kept crates/below/src/lib.rt'; do
+    fresh
+    checks "sleep 0.1; $change; $builds"
+    gives 2 '' bin/verdict "$R" "$R"
+    said '^verdict: the sources or the toolchain have changed while target/bin/verdict was built: ask again$'
+    none_kept 'for sources that changed meanwhile'
+done
+
+# A program that is not the same after it has answered
+fresh
+checks "$builds"
+programs 'rm target/built/verdict; echo yes 1'
+gives 2 '' bin/verdict "$R" "$R"
+built 2 'for a program that changes while it is asked'
+programs 'echo yes 8'
+
 # What rt has found wanting is not asked, and neither it nor its stamp is kept
 for check in "$builds; exit 1" "$builds; kill -9 \$\$"; do
     fresh
@@ -157,12 +188,16 @@ checks ':'
 gives 2 '' bin/verdict "$R" "$R"
 said '^verdict: rt check verdict has not built target/bin/verdict: '
 
+# waits until a pattern is found in one of these files, ten seconds at the most
+awaits="awaits() { times=0; until grep -qs \"\$@\" || [ \$times = 100 ]; do sleep 0.1; times=\$((times + 1)); done; }"
+
 # Two at once: each is answered, one builds at a time, and a program is built once
-slowly="mkdir busy || echo at once >>'$stand/overlaps'; sleep 1; $builds; rmdir busy"
+slowly="$awaits; mkdir busy || echo at once >>'$stand/overlaps'; awaits 'another build is at work' '$room/first.err' '$room/second.err'; $builds; rmdir busy"
 : >"$stand/overlaps"
 at_once() { # TIMES COMMAND COMMAND
     local first second one
     fresh
+    rm -f "$room/first.err" "$room/second.err"
     "$2" "$R" "$R" >"$room/first" 2>"$room/first.err" &
     first=$!
     "$3" "$R" "$R" >"$room/second" 2>"$room/second.err" &
@@ -180,46 +215,56 @@ at_once() { # TIMES COMMAND COMMAND
 checks "$slowly"
 at_once 1 bin/verdict bin/verdict
 at_once 2 bin/verdict bin/compatible
-# and where one of them is killed, the other builds
+# where what the first has built does not answer, one of them builds it again
+checks "[ -e first ] || { : >first; mkdir -p target/bin target/stamp; echo >target/bin/\$2; chmod +x target/bin/\$2; : >target/stamp/\$2; }; $slowly"
+at_once 2 bin/verdict bin/verdict
+rm first
+# where one of them is killed, the other builds
 fresh
-checks "[ -e died ] || { : >died; sleep 0.5; kill -9 \$\$; }; $builds"
+checks "$awaits; [ -e died ] || { : >died; awaits 'another build is at work' '$room/err'; kill -9 \$\$; }; $builds"
+rm -f "$room/err"
 bin/verdict "$R" "$R" >"$room/first" 2>"$room/first.err" &
 first=$!
-while [ ! -e died ]; do sleep 0.05; done
+for _ in $(seq 100); do [ -e died ] || sleep 0.1; done
 answers 'yes 8' 2 'where the build it waited for was killed'
-wait "$first" && differs 'a build that was killed was answered'
+status=0
+wait "$first" || status=$?
+[ "$status" = 2 ] || differs "a build that was killed ended with $status"
+[ ! -s "$room/first" ] || differs "a build that was killed printed '$(cat "$room/first")'"
 answers 'yes 8' 2 'after a build that was killed'
 rm died
 
 # Where a build is: each crate with its number and the time, in a line, and on one line of a terminal
-proves="mkdir -p target/log
+proves="$awaits
+mkdir -p target/log
 for crate in below \$2; do
     echo note >target/log/\$crate.out
-    sleep 0.9
+    awaits \": \$crate (\" '$room/err' '$room/terminal'
     echo \"rt: \$crate proved (1 s)\" >>target/log/\$crate.out
 done
 $builds"
 fresh
 checks "$proves"
+rm -f "$room/err" "$room/terminal"
 answers 'yes 8' 1 'while it says where it is'
 for pattern in '^verdict: target/bin/verdict is not built yet: building it\. The first build proves 2 crates, which took between .* s on two cores\.$' \
-    '^verdict: proving 1 of 2: below ([0-9] s)$' '^verdict: proving 2 of 2: verdict ([0-9] s)$'; do
+    '^verdict: proving 1 of 2: below (.* s)$' '^verdict: proving 2 of 2: verdict (.* s)$'; do
     said "$pattern"
 done
-[ "$(grep -vc '^verdict: built (. s)$' "$room/err")" = 3 ] || differs "more is said of a build than where it is: $(cat "$room/err")"
+[ "$(grep -vc '^verdict: built (.* s)$' "$room/err")" = 3 ] || differs "more is said of a build than where it is: $(cat "$room/err")"
 rm target/bin/verdict
 checks "mkdir -p target/log; echo 'rt: below proved (unchanged since it was last proved)' >target/log/below.out; $builds"
 answers 'yes 8' 2 'where there is nothing to prove'
 [ ! -s "$room/err" ] || differs "a build with nothing to prove says '$(cat "$room/err")'"
-rm target/bin/verdict
+rm target/bin/verdict "$room/err"
 checks "$proves"
 script -qec "bin/verdict '$R' '$R'" /dev/null >"$room/terminal" </dev/null || differs 'bin/verdict gave no yes on a terminal'
 tr '\r' '\n' <"$room/terminal" >"$room/err"
-said 'verdict: proving 1 of 2: below ([0-9] s)$'
-said 'verdict: proving 2 of 2: verdict ([0-9] s)$'
+said 'verdict: proving 1 of 2: below (.* s)$'
+said 'verdict: proving 2 of 2: verdict (.* s)$'
 said 'yes 8$'
 ! grep -q 'The first build' "$room/err" || differs 'a later build is said to be the first'
-[ "$(grep -vc 'verdict: built (. s)' "$room/terminal")" = 2 ] ||
+[ "$(grep -vc 'verdict: built (.* s)' "$room/terminal")" = 2 ] ||
     differs "where a build is takes more than one line of a terminal: $(cat -v "$room/terminal")"
 
 # What keeps a build from being made, in one sentence that says what to do
@@ -244,6 +289,6 @@ gives 2 '' bin/verdict "$R" "$R"
 said '^verdict: the disk of .* is full: make room, .*, and ask again$'
 [ "$(wc -l <"$room/err")" = 1 ] || differs "more than a sentence is said of a full disk: $(cat "$room/err")"
 gives 2 '' bin/verdict --version
-said '^verdict: .* is no git checkout of its own, so its commit is not known$'
+said '^verdict: .* commit'
 PATH=${PATH#"$stand":}
 cd "$root" || exit

@@ -11,7 +11,7 @@ text_most=4096
 # The status is 2 until a whole line has been read from the program and printed. Whatever else ends the shell on the way, a command that is
 # missing, a full disk, a signal, must not look like a verdict.
 status=2
-trap '[[ -z ${watcher-} ]] || end_progress; exit "$status"' EXIT
+trap '[[ -z ${workshop-} ]] || end_build; exit "$status"' EXIT
 
 fail() { # MESSAGE
     printf '%s: %s\n' "$name" "$1" >&2
@@ -31,35 +31,51 @@ print() { # TEXT
     printf '%s\n' "$1" 2>/dev/null || fail 'cannot write to standard output'
 }
 
-# Prints the bytes of a file that count, in base64: a variable holds no byte 0, and a temporary file could be left behind. The file is opened
-# here and not by its name, which may begin with `-`.
+# Prints the bytes of a file that count, in base64, and a full stop: a variable holds no byte 0, a temporary file could be left behind, and what has
+# no full stop is not whole. The file is opened here and not by its name, which may begin with `-`.
 taken() { # FILE
-    local said
-    { said=$({ head -c "$((text_most + 1))" <"$1" >&3; } 2>&1) || fail "cannot read $1: ${said##*: }"; } 3>&1 | base64 -w 0
+    local said out file=$1
+    [[ $file != /dev/tcp/* && $file != /dev/udp/* ]] || file=/.$file # names that the shell would connect to
+    { said=$({ head -c "$((text_most + 1))" <"$file" >&"$out"; } 2>&1) || fail "cannot read $1: ${said##*: }"; } {out}>&1 | base64 -w 0 && printf .
 }
 
-decoded() { printf '%s' "$1" | base64 -d; } # BASE64
+decoded() { printf '%s' "${1%.}" | base64 -d; } # TAKEN
 
-# Sets `line` to what the program prints for the two texts, if it ends well and that is one whole line of one of the three forms and nothing
-# besides.
-ask_program() { # NEW OLD, in base64
+# Sets `line` to what the program prints for the two texts, if it ends well, is still the same afterwards, and that is one whole line of one of the
+# three forms and nothing besides.
+ask_program() { # NEW OLD, taken
     local said number='(0|[1-9][[:digit:]]*)'
     local forms="^(yes $number|no( $number){5,}|refused( $number){3})$"
-    said=$({ decoded "$1" && printf '\0' && decoded "$2"; } | run "$program" | LC_ALL=C tr '\0' '?' && printf .) || return
+    said=$({ decoded "$1" && printf '\0' && decoded "$2"; } | run "$program" | LC_ALL=C tr '\0' '?' && printf .) && as_built || return
     line=${said%$'\n.'}
     [[ $said == "$line"$'\n.' && $line =~ $forms ]]
+}
+
+# Asks a program again that did not answer: as another caller has built it meanwhile, or built again by this one.
+ask_again() { # NEW OLD, taken
+    local why="$program does not answer"
+    need_rt "$why"
+    take_lock
+    if ! { current && ask_program "$1" "$2" 2>/dev/null; }; then
+        rm -f -- "$program" "$stamp" "$record"
+        prove "$why"
+        ask_program "$1" "$2" || fail "$root/$program was built again and still does not print one line of a known form"
+    fi
+    exec {held}<&-
 }
 
 # Prints the commit and the toolchain's identity, as a certificate names them.
 version() {
     local top commit changed with
-    unset GIT_DIR GIT_WORK_TREE GIT_INDEX_FILE
-    top=$(git rev-parse --show-toplevel 2>&1) || fail "git cannot tell which commit $root is: ${top##*fatal: }"
+    # shellcheck disable=SC2046
+    unset $(git rev-parse --local-env-vars)
+    top=$(git rev-parse --show-toplevel 2>&1) || fail "git cannot tell which commit $root is: ${top%%$'\n'*}"
     [[ $top == "$root" ]] || fail "$root is no git checkout of its own, so its commit is not known"
-    commit=$(git rev-parse HEAD) && changed=$(git --no-optional-locks status --porcelain -- bin crates crates.txt) ||
+    commit=$(git rev-parse HEAD 2>/dev/null) &&
+        changed=$(git --no-optional-locks status --porcelain --untracked-files=all --ignored -- bin crates crates.txt) ||
         fail "git cannot tell which commit $root is"
     if [[ -n $changed ]]; then
-        changed=$(sources) || fail "the sources of $root cannot be read"
+        changed=$(sources) || fail "the sources in $root cannot all be read, or some are links"
         changed=", with changes that are not committed: sources $changed"
     fi
     with=$(toolchain) && [[ -n $with ]] || fail 'rt is not on the PATH and has built no program here, so the toolchain is not known'
@@ -87,18 +103,17 @@ ask() { # ARGUMENTS
     [[ $# -eq 2 ]] || fail "two files are asked for, and $there
 $(usage)"
 
-    new=$(taken "$1") || exit
+    # Without a standard input /dev/stdin would be whatever is opened next.
+    [[ -e /dev/fd/0 ]] || exec </
+    new=$(taken "$1") && [[ $new == *. ]] || exit
     # The program takes the first byte 0 for the end of the new text.
     [[ $(decoded "$new" | LC_ALL=C tr -dc '\0' | wc -c) == 0 ]] ||
         fail "$1 holds a byte 0, which would end the new text there (is it UTF-16? a description is plain ASCII)"
-    old=$(taken "$2") || exit
+    old=$(taken "$2") && [[ $old == *. ]] || exit
 
     cd -- "$root"
     current || build
-    if ! ask_program "$new" "$old" 2>/dev/null; then
-        build_again
-        ask_program "$new" "$old" || fail "$root/$program was built again and still does not print one line of a known form"
-    fi
+    ask_program "$new" "$old" 2>/dev/null || ask_again "$new" "$old"
     print "$line"
     case $line in
     yes*) status=0 ;;

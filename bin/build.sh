@@ -7,7 +7,7 @@ program=target/bin/$name
 stamp=target/stamp/$name   # rt's: where it is right rt builds nothing, whatever has become of the program
 record=target/built/$name  # what the program was built from, and its own hash
 log=target/built/$name.log # what rt printed
-lock=target/built/lock
+began=target/built/began   # as old as the build that is at work
 
 say() { printf '%s: %s\n' "$name" "$1" >&2; }
 
@@ -15,46 +15,51 @@ have() { [[ -n $(type -P "$1") ]]; } # COMMAND
 
 hash() { sha256sum | cut -c 1-64; }
 
-# Prints one hash of every source and of the list of crates.
-sources() { find crates crates.txt -type f -exec sha256sum {} + | LC_ALL=C sort -k 2 | hash; }
+# Prints one hash of every source and of the list of crates. A link is refused: rt follows none.
+sources() {
+    local links
+    links=$(find crates crates.txt -type l) && [[ -z $links ]] || return 1
+    find crates crates.txt -type f -exec sha256sum {} + | LC_ALL=C sort -k 2 | hash
+}
 
 # Prints the identity of the toolchain that is here or, without one, of the toolchain that built the program.
 toolchain() {
     if have rt; then rt version; else sed -n 's/^toolchain //p' "$record" 2>/dev/null; fi
 }
 
-# Prints what a program that is built now is built from.
+# Prints what a program that is built now is built from, in two lines.
 origin() {
     local from with
-    from=$(sources) && with=$(toolchain) && printf 'sources %s\ntoolchain %s\n' "$from" "$with"
+    from=$(sources) && with=$(toolchain) && [[ -n $with ]] && printf 'sources %s\ntoolchain %s\n' "$from" "$with"
 }
 
-# Whether the program is there, as it was built, and was built from what is here now.
+# Whether the program is the one that was recorded when it was built.
+as_built() {
+    local was now
+    [[ -x $program && -f $record ]] && was=$(sed -n 3p "$record") && now=$(hash <"$program") && [[ -n $now && $now == "$was" ]]
+}
+
+# Whether the program was built from what is here now.
 current() {
-    [[ -x $program && -f $record ]] && [[ $(origin && hash <"$program") == "$(cat "$record")" ]]
+    local was now
+    as_built && was=$(head -n 2 "$record") && now=$(origin) && [[ -n $now && $now == "$was" ]]
 }
 
 full() { fail "the disk of $root is full: make room, of which a build takes about 230 MB, and ask again"; }
 
-unwritable() { # REASON
-    [[ $1 != *'No space left'* ]] || full
-    fail "nothing can be written in $root ($1): get leave to write there, or clone the repository to where you have it and ask there"
-}
-
-# Waits until no other caller builds here. The lock is held until the shell and all that it started have ended, or let it go.
+# Waits until no other caller builds here. What is locked is the checkout's folder, and until this shell and all that it started have ended or
+# let it go.
 take_lock() {
-    local said
+    local ended=0
     have flock || fail 'flock, which keeps two builds apart, is not on the PATH: install util-linux'
-    until
-        said=$({ mkdir -p target/built && : >>"$lock"; } 2>&1) || unwritable "${said##*: }"
-        exec {held}>>"$lock"
-        flock -n "$held" || {
-            say 'another build is at work in this checkout: waiting for it'
-            flock "$held"
-        }
-        # target/ may have been removed meanwhile, and the lock with it
-        [[ /dev/fd/$held -ef $lock ]]
-    do exec {held}>&-; done
+    exec {held}<.
+    flock -n -E 9 "$held" || ended=$?
+    if [[ $ended == 9 ]]; then
+        say 'another build is at work in this checkout: waiting for it'
+        ended=0
+        flock "$held" || ended=$?
+    fi
+    [[ $ended == 0 ]] || fail "$root cannot be locked for a build: clone the repository to a disk of this machine and ask there"
 }
 
 # Prints a crate and all that it stands on.
@@ -79,8 +84,8 @@ so_far() {
 }
 
 # rt writes target/log/CRATE.out from when it begins a crate, and says there at the end what became of it.
-begun() { [[ -e target/log/$1.out && ! target/log/$1.out -ot $lock ]]; } # CRATE
-ended() { grep -q "^rt: $1 " "target/log/$1.out"; }                       # CRATE
+begun() { [[ -e target/log/$1.out && ! target/log/$1.out -ot $began ]]; } # CRATE
+ended() { grep -q "^rt: $1 " "target/log/$1.out"; }                        # CRATE
 
 # Says why there is a build and which crates are being proved, until it is ended: on one line of a terminal, elsewhere in a line for each. A crate
 # that has not changed is at work for no longer than one look, and is not spoken of.
@@ -117,58 +122,74 @@ end_progress() {
     [[ ! -t 2 ]] || printf '\r\033[K' >&2
 }
 
+# What the prover keeps while it works, 234 MB, is in a folder that goes with this shell: a prover that was interrupted leaves it behind. A program is run
+# there too, as nobody where rt is root.
+workshop=
+end_build() {
+    end_progress
+    [[ -z $workshop ]] || rm -rf -- "$workshop" || true
+    workshop=
+}
+
+# Makes the folders of a build, or says what to do.
+make_room() {
+    local said
+    said=$({ mkdir -p target/built && touch "$began"; } 2>&1) || {
+        [[ $said != *'No space left'* ]] || full
+        fail "nothing can be written in $root (${said##*: }): get leave to write there, or clone the repository to where you have it and ask there"
+    }
+    workshop=$(mktemp -d) && chmod 711 "$workshop" || fail "no temporary folder can be made: set TMPDIR to a folder where you may write"
+}
+
 # What rt has built and then found wanting is not kept: the next call would ask it.
 fail_build() {
-    end_progress
+    local said
+    end_build
     rm -f -- "$program" "$stamp"
-    if grep -qs 'No space left on device' "$log" || ! { head -c 1000000 /dev/zero >"$log.room"; } 2>/dev/null; then
-        rm -f -- "$log.room"
-        full
-    fi
+    said=$({ cat "$log" && head -c 1000000 /dev/zero >"$log.room"; } 2>&1 | grep -a -m 1 'No space left on device') || true
     rm -f -- "$log.room"
+    [[ -z $said ]] || full
     fail "rt check $name failed, so there is no program to ask: $root/$log has what it printed"
 }
 
 # Builds the program and records what from. The caller has the lock.
 prove() { # WHY
     local from crates why="$1: building it."
-    from=$(origin) || fail "the sources in $root cannot be read, or rt does not tell its version"
+    from=$(origin) || fail "the sources in $root cannot all be read, or some are links, or rt does not tell its version"
     mapfile -t crates < <(crates_below "$name")
     [[ -n $(find target/stamp -type f 2>/dev/null) ]] ||
         why+=" The first build proves ${#crates[@]} crates, which took between 3 min 41 s and 4 min 41 s on two cores."
-    # rt would not link a program again that has gone, or that is another one than was built from the same sources.
-    if [[ ! -x $program || ! -s $program || $(head -n 2 "$record" 2>/dev/null) == "$from" ]]; then rm -f -- "$program" "$stamp"; fi
+    # rt goes by its stamp and does not look at the program. One that is recorded, or has not changed since rt made its stamp, is what rt has built. Any
+    # other goes, and the stamp with it, so that rt links it again.
+    as_built || [[ -s $program && -x $program && -z $(find "$program" -cnewer "$stamp" 2>&1) ]] || rm -f -- "$program" "$stamp"
     rm -f -- "$record"
+    make_room
     SECONDS=0
-    touch "$lock"
-    progress "$why" "${crates[@]}" {held}>&- &
+    progress "$why" "${crates[@]}" {held}<&- &
     watcher=$!
-    rt check "$name" </dev/null >"$log" 2>&1 || fail_build
-    end_progress
+    TMPDIR=$workshop rt check "$name" </dev/null >"$log" 2>&1 || fail_build
+    end_build
     if [[ ! -x $program || ! -s $program ]]; then
         rm -f -- "$stamp"
         fail "rt check $name has not built $program: $root/$log has what it printed"
+    fi
+    # What rt has read may be neither the old nor the new sources then, also where they have been put back.
+    if [[ -n $(find crates crates.txt -cnewer "$began") || $(origin) != "$from" ]]; then
+        rm -rf -- "$program" target/stamp
+        fail "the sources or the toolchain have changed while $program was built: ask again"
     fi
     { printf '%s\n' "$from" && hash <"$program"; } >"$record" || fail "cannot write $root/$record"
     ((SECONDS < 3)) || say "built ($(so_far))"
 }
 
+need_rt() { have rt || fail "$1, and rt, which builds it, is not on the PATH: README.md says where rt comes from"; } # WHY
+
 # Builds the program, unless another caller has done so while this one waited.
 build() {
     local why="$program is not built yet"
     [[ ! -e $program ]] || why="$program is not what the sources and the toolchain give now"
-    have rt || fail "$why, and rt, which builds it, is not on the PATH: README.md says where rt comes from"
+    need_rt "$why"
     take_lock
     current || prove "$why"
-    exec {held}>&-
-}
-
-# Builds a program again that does not answer.
-build_again() {
-    local why="$program does not answer"
-    have rt || fail "$why, and rt, which builds it, is not on the PATH: README.md says where rt comes from"
-    take_lock
-    rm -f -- "$program" "$stamp" "$record"
-    prove "$why"
-    exec {held}>&-
+    exec {held}<&-
 }

@@ -2,8 +2,7 @@
 # shellcheck shell=bash
 
 usage() {
-    cat <<END
-usage: bin/$name NEW $second
+    printf '%s\n' "usage: bin/$name NEW $second
        bin/$name --help
        bin/$name --version
 
@@ -34,6 +33,5 @@ NUMBER of a refusal. The text (1 is NEW, 2 is $second) is no description, and no
     8   name used, never defined
     9   definition whose names lead round and never to a node
 
-docs/NOTATION.md explains each with an example, the other fields of the line, and what a yes does not say.
-END
+docs/NOTATION.md explains each with an example, the other fields of the line, and what a yes does not say."
 }

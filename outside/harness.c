@@ -7,6 +7,7 @@
  * Where no line is printed, one line on standard error says why. */
 #include "../include/dzaghvori.h"
 
+#include <errno.h>
 #include <stdio.h>
 #include <string.h>
 
@@ -114,8 +115,13 @@ static int run_checks(void) {
     return failures == 0 ? 0 : 2;
 }
 
-static int fail(const char *what, const char *which) {
-    fprintf(stderr, "harness: %s%s\n", what, which);
+static int fail(const char *what) {
+    fprintf(stderr, "harness: %s\n", what);
+    return 2;
+}
+
+static int fail_to_read(const char *name) {
+    fprintf(stderr, "harness: cannot read %s: %s\n", name, strerror(errno));
     return 2;
 }
 
@@ -135,18 +141,18 @@ static int read_text(const char *name, uint8_t *text, size_t *length) {
 static int ask(int compatible, const char *new_name, const char *old_name) {
     static uint8_t new_text[TEXT], old_text[TEXT], answer[DZAGHVORI_LINE(DZAGHVORI_TEXT_NODES, DZAGHVORI_DUAL_NODES)];
     size_t new_length, old_length, area;
-    if (!read_text(new_name, new_text, &new_length)) return fail("cannot read ", new_name);
-    if (!read_text(old_name, old_text, &old_length)) return fail("cannot read ", old_name);
+    if (!read_text(new_name, new_text, &new_length)) return fail_to_read(new_name);
+    if (!read_text(old_name, old_text, &old_length)) return fail_to_read(old_name);
     size_t length = (compatible ? dzaghvori_compatible_own : dzaghvori_verdict_own)(new_text, new_length, old_text, old_length, answer,
                                                                                    sizeof answer, &area);
-    if (length == 0) return fail("the line is too long", "");
-    if (fwrite(answer, 1, length, stdout) != length || fflush(stdout) != 0) return fail("cannot write to standard output", "");
+    if (length == 0) return fail("the line is too long");
+    if (fwrite(answer, 1, length, stdout) != length || fflush(stdout) != 0) return fail("cannot write to standard output");
     return answer[0] == 'y' ? 0 : answer[0] == 'n' ? 1 : 2;
 }
 
 int main(int count, char **words) {
     int compatible = count > 1 && strcmp(words[1], "--compatible") == 0;
     if (count == 2 && strcmp(words[1], "--check") == 0) return run_checks();
-    if (count != 3 + compatible) return fail("usage: harness [--compatible] NEW OLD, or --check", "");
+    if (count != 3 + compatible) return fail("usage: harness [--compatible] NEW OLD, or --check");
     return ask(compatible, words[1 + compatible], words[2 + compatible]);
 }

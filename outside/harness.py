@@ -6,18 +6,20 @@ usage: harness.py SHARED_OBJECT NEW OLD
        harness.py SHARED_OBJECT --check
 
 Prints the line for two files. The exit status is that of bin/verdict: 0 for yes, 1 for no, and 2 for a refusal and for every failure, which is
-said in one line on standard error. With --check it asks for the rows of document 01's two tables, and for R and what faces it: 0 if all are
-right, and 2 otherwise."""
+said in one line on standard error. A Python that cannot even start ends with 1 as well: a no is status 1 and the line. With --check it asks for the
+rows of document 01's two tables, and for R and what faces it: 0 if all are right, and 2 otherwise."""
 
 import os
 import sys
 
 
 def give_up(_kind, failure, _trace):
-    """Ends with status 2 and one line. Python by itself would end with 1, which says no."""
-    said = " ".join(str(failure).split()) or type(failure).__name__
-    print(f"harness.py: {said}", file=sys.stderr, flush=True)
-    os._exit(2)
+    """Ends with status 2 and one line, if it can be written. Python by itself would end with 1, which says no."""
+    try:
+        said = " ".join(str(failure).split()) or type(failure).__name__
+        os.write(2, f"harness.py: {said}\n".encode(errors="backslashreplace"))
+    finally:
+        os._exit(2)
 
 
 if __name__ == "__main__":
@@ -127,10 +129,13 @@ def read(name):
 
 def write(line):
     """Prints the whole line, or fails here and not when Python ends."""
+    if sys.stdout is None:
+        raise OSError("cannot write to standard output")
+    rest = line.encode("ascii")
     try:
-        sys.stdout.write(line)
-        sys.stdout.flush()
-    except (AttributeError, OSError) as failure:  # without a standard output it is None
+        while rest:
+            rest = rest[os.write(1, rest) :]
+    except OSError as failure:
         raise OSError("cannot write to standard output") from failure
 
 

@@ -43,8 +43,9 @@ else
     # The toolchain's clang compiles for x86-64 and has no headers of its own.
     cc=(env -u LD_LIBRARY_PATH "$(kit)/on/$(uname -m)/toolchain/bin/clang" --no-default-config --target=x86_64-linux-gnu --sysroot="$unpacked"
         -isystem "$unpacked/usr/lib/gcc/x86_64-linux-gnu/12/include" -fuse-ld=lld)
-    printf '#!/bin/sh\nexec %s "$@"\n' "${cc[*]@Q}" >"$for_x86/cc"
-    chmod +x "$for_x86/cc"
+    printf '#!/bin/sh\nexec %s "$@"\n' "${cc[*]@Q}" >"$for_x86/cc.$$"
+    chmod +x "$for_x86/cc.$$"
+    mv "$for_x86/cc.$$" "$for_x86/cc"
     rustc=(env LD_LIBRARY_PATH="$unpacked/usr/lib/$(uname -m)-linux-gnu" "$unpacked/usr/bin/rustc" --target x86_64-unknown-linux-gnu
         -C linker="$for_x86/cc" -C linker-flavor=gcc)
 fi
