@@ -159,14 +159,19 @@ gives 2 '' bin/verdict "$R" "$R"
 said 'some are links'
 mv elsewhere crates/below/src/lib.rt
 
-# A source that is changed while rt is at work, also one that is put back
-for change in 'echo meanwhile >>crates/below/src/lib.rt' 'mv crates/below/src/lib.rt kept; echo 1 >crates/below/src/lib.rt; sleep 0.1; mv kept crates/below/src/lib.rt'; do
+# What changes while rt is at work: a source, also one that is put back, and the toolchain
+while IFS= read -r change; do
     fresh
     checks "sleep 0.1; $change; $builds"
     gives 2 '' bin/verdict "$R" "$R"
-    said '^verdict: the sources or the toolchain have changed while target/bin/verdict was built: ask again$'
-    none_kept 'for sources that changed meanwhile'
-done
+    said '^verdict: the sources, the toolchain or target/ have changed while target/bin/verdict was built: ask again$'
+    none_kept 'for what changed meanwhile'
+done <<END
+echo meanwhile >>crates/below/src/lib.rt
+mv crates/below/src/lib.rt kept; echo 1 >crates/below/src/lib.rt; sleep 0.1; mv kept crates/below/src/lib.rt
+echo kit 3 >'$stand/identity'
+rm -rf target
+END
 
 # A program that is not the same after it has answered
 fresh
@@ -233,6 +238,23 @@ wait "$first" || status=$?
 [ ! -s "$room/first" ] || differs "a build that was killed printed '$(cat "$room/first")'"
 answers 'yes 8' 2 'after a build that was killed'
 rm died
+
+# A build whose caller is ended ends with it, and leaves nothing behind
+for signal in TERM HUP; do
+    fresh
+    checks 'mktemp >/dev/null; sh -c "trap \"\" INT; echo \$\$ >working; sleep 60" & wait'
+    bin/verdict "$R" "$R" >"$room/first" 2>"$room/first.err" &
+    first=$!
+    for _ in $(seq 100); do [ -s working ] || sleep 0.1; done
+    kill -s "$signal" "$first"
+    status=0
+    wait "$first" 2>/dev/null || status=$?
+    [ "$status" -gt 1 ] || differs "status $status of a build that the signal $signal ended"
+    ! kill -0 "$(cat working)" 2>/dev/null || differs "a build is at work after the signal $signal"
+    [ -z "$(ls -A "$TMPDIR")" ] || differs "a build that the signal $signal ended has left $(ls -A "$TMPDIR") behind"
+    count=$((count + 1))
+    rm working
+done
 
 # Where a build is: each crate with its number and the time, in a line, and on one line of a terminal
 proves="$awaits

@@ -11,7 +11,7 @@ text_most=4096
 # The status is 2 until a whole line has been read from the program and printed. Whatever else ends the shell on the way, a command that is
 # missing, a full disk, a signal, must not look like a verdict.
 status=2
-trap '[[ -z ${workshop-} ]] || end_build; exit "$status"' EXIT
+trap 'trap "" HUP INT TERM; [[ -z ${workshop-} ]] || end_build; exit "$status"' EXIT
 
 fail() { # MESSAGE
     printf '%s: %s\n' "$name" "$1" >&2

@@ -36,13 +36,13 @@ origin() {
 # Whether the program is the one that was recorded when it was built.
 as_built() {
     local was now
-    [[ -x $program && -f $record ]] && was=$(sed -n 3p "$record") && now=$(hash <"$program") && [[ -n $now && $now == "$was" ]]
+    [[ -x $program && -f $record ]] && was=$(sed -n 3p "$record" 2>/dev/null) && now=$(hash <"$program") && [[ -n $now && $now == "$was" ]]
 }
 
 # Whether the program was built from what is here now.
 current() {
     local was now
-    as_built && was=$(head -n 2 "$record") && now=$(origin) && [[ -n $now && $now == "$was" ]]
+    as_built && was=$(head -n 2 "$record" 2>/dev/null) && now=$(origin) && [[ -n $now && $now == "$was" ]]
 }
 
 full() { fail "the disk of $root is full: make room, of which a build takes about 230 MB, and ask again"; }
@@ -122,11 +122,21 @@ end_progress() {
     [[ ! -t 2 ]] || printf '\r\033[K' >&2
 }
 
-# What the prover keeps while it works, 234 MB, is in a folder that goes with this shell: a prover that was interrupted leaves it behind. A program is run
-# there too, as nobody where rt is root.
+# Ends what is left of a build, in an interrupted one all of it. rt starts the prover so that an interrupt does not reach it, so it has a process group of
+# its own, which is ended as a whole; and a folder for its 234 MB of temporary files, which an interrupted prover leaves behind.
+builder=
 workshop=
 end_build() {
+    local times
     end_progress
+    if [[ -n $builder ]] && kill -TERM -- "-$builder" 2>/dev/null; then
+        for ((times = 0; times < 100; times++)); do
+            kill -0 -- "-$builder" 2>/dev/null || break
+            sleep 0.05
+        done
+        kill -KILL -- "-$builder" 2>/dev/null || true
+    fi
+    builder=
     [[ -z $workshop ]] || rm -rf -- "$workshop" || true
     workshop=
 }
@@ -138,6 +148,7 @@ make_room() {
         [[ $said != *'No space left'* ]] || full
         fail "nothing can be written in $root (${said##*: }): get leave to write there, or clone the repository to where you have it and ask there"
     }
+    # rt runs the program there too, as nobody where it is root
     workshop=$(mktemp -d) && chmod 711 "$workshop" || fail "no temporary folder can be made: set TMPDIR to a folder where you may write"
 }
 
@@ -167,16 +178,20 @@ prove() { # WHY
     SECONDS=0
     progress "$why" "${crates[@]}" {held}<&- &
     watcher=$!
-    TMPDIR=$workshop rt check "$name" </dev/null >"$log" 2>&1 || fail_build
+    set -m # so that rt has its own group
+    TMPDIR=$workshop rt check "$name" </dev/null >"$log" 2>&1 &
+    builder=$!
+    set +m
+    wait "$builder" || fail_build
     end_build
     if [[ ! -x $program || ! -s $program ]]; then
         rm -f -- "$stamp"
         fail "rt check $name has not built $program: $root/$log has what it printed"
     fi
     # What rt has read may be neither the old nor the new sources then, also where they have been put back.
-    if [[ -n $(find crates crates.txt -cnewer "$began") || $(origin) != "$from" ]]; then
+    if [[ -n $(find crates crates.txt -cnewer "$began" 2>&1) || $(origin) != "$from" ]]; then
         rm -rf -- "$program" target/stamp
-        fail "the sources or the toolchain have changed while $program was built: ask again"
+        fail "the sources, the toolchain or target/ have changed while $program was built: ask again"
     fi
     { printf '%s\n' "$from" && hash <"$program"; } >"$record" || fail "cannot write $root/$record"
     ((SECONDS < 3)) || say "built ($(so_far))"
