@@ -22,7 +22,7 @@ REASON of a no:
     22  an item differs
     23  a label that may be chosen is missing
 
-NUMBER of a refusal. The text (1 is NEW, 2 is $second) is no description, and nothing was compared:
+NUMBER of a refusal. The text (1 is NEW, 2 is $second) is no valid description, and nothing was compared:
     1   text over 4,096 bytes
     2   something that cannot stand here, or the text ends too early
     3   word over 16 bytes

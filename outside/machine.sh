@@ -35,7 +35,7 @@ unpack() { # FOLDER
 if [[ $(uname -m) == x86_64 ]]; then
     rustc=(rustc) cc=(cc) run=() python=(python3)
 else
-    for_x86=${XDG_CACHE_HOME:-$HOME/.cache}/dzaghvori/x86-64
+    for_x86=${XDG_CACHE_HOME:-${HOME:-/var/tmp}/.cache}/dzaghvori/x86-64
     [[ -d $for_x86 ]] || unpack "$for_x86" >&2
     unpacked=$for_x86/root
     run=("$unpacked/usr/bin/qemu-x86_64-static" -L "$unpacked")
