@@ -45,7 +45,7 @@ current() {
     as_built && was=$(head -n 2 "$record" 2>/dev/null) && now=$(origin) && [[ -n $now && $now == "$was" ]]
 }
 
-full() { fail "the disk of $root or of ${TMPDIR:-/tmp} is full: make room, of which a build takes about 230 MB on either, and ask again"; }
+full() { fail "the disk of $root or of ${TMPDIR:-/tmp} is full: make room, of which a build takes up to 260 MB on either, and ask again"; }
 
 # Waits until no other caller builds here. What is locked is the checkout's folder, and until this shell and all that it started have ended or
 # let it go.
@@ -123,7 +123,7 @@ end_progress() {
 }
 
 # Ends what is left of a build, in an interrupted one all of it. rt starts the prover so that an interrupt does not reach it, so it has a process group of
-# its own, which is ended as a whole; and a folder for its 234 MB of temporary files, which an interrupted prover leaves behind.
+# its own, which is ended as a whole; and a folder for its temporary files, up to 260 MB, which an interrupted prover leaves behind.
 builder=
 workshop=
 end_build() {

@@ -33,7 +33,8 @@ extern "C" {
 #define DZAGHVORI_SCRATCH(n, m) (4 * (size_t)(n) * (size_t)(m))
 #define DZAGHVORI_LINE(n, m) (6 * (size_t)(n) * (size_t)(m) + 18)
 
-/* The most nodes: of a text's table, and of its dual. */
+/* The most bytes of a text that is not refused for its length, and the most nodes of its table and of that table's dual. */
+#define DZAGHVORI_TEXT_BYTES 4096
 #define DZAGHVORI_TEXT_NODES 64
 #define DZAGHVORI_DUAL_NODES 128
 

@@ -126,7 +126,7 @@ static int fail_to_read(const char *name) {
 }
 
 /* One byte more than a text may have: what comes behind them does not count, as such a text is refused. */
-enum { TEXT = 4096 + 1 };
+enum { TEXT = DZAGHVORI_TEXT_BYTES + 1 };
 
 /* Reads the bytes of a file that count, and returns 0 where that fails. */
 static int read_text(const char *name, uint8_t *text, size_t *length) {
