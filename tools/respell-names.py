@@ -3,7 +3,8 @@
 
 A definition, a record's field and a constructor become snake case. A lemma's name is cut into the names of definitions and functions that it is
 made of and the plain words between them: a dash joins two names, as in `tokens-blank`, and anything else is joined by `_`, as in `word_true`.
-Types and modules are in camel case already. Functions of src/, C names, strings, inputs and outputs keep their names. What is imported
+A variable, a parameter of a module and a constructor of two words
+become snake case too. Types and modules are in camel case already. Functions of src/, C names, strings, inputs and outputs keep their names. What is imported
 from elsewhere is left alone. It prints each renaming, and stops before any is made where two names of a file would fall together.
 """
 import collections
@@ -49,6 +50,24 @@ def lemma_name(name, known):
     return text + ("_" if name.endswith("_") else "")
 
 
+def foreign_names(text, own):
+    """What a file brings in from elsewhere."""
+    return {w.split(" as ")[0].strip() for m in USE.finditer(text) if not (m[1] + ".").startswith(own) for w in m[2].split(",")}
+
+
+def variables(antt, declared):
+    """The other names of two words: variables, parameters and constructors. Proofs by hand are left out, for their names are the check's."""
+    found = set()
+    for p in antt:
+        if os.path.basename(p) == "Proof.antt":
+            continue
+        text = read(p)
+        brought = {w.split(" as ")[0].strip() for m in USE.finditer(text) for w in m[2].split(",")}
+        text = USE.sub("", re.sub(r'"[^"\n]*"', "", re.sub(r"--.*", "", text)))
+        found |= {w for w in NAME.findall(text) if re.match(r"[a-z][a-z0-9'_]*(-[a-z0-9'_]+)+$", w) and w not in declared and w not in brought}
+    return found
+
+
 def main():
     crates = sorted(os.listdir("crates"))
     own = tuple(f"Rattle.{c}." for c in crates)
@@ -90,6 +109,8 @@ def main():
         target[n] = "_".join(parts(n)) + ("_" if n.endswith("_") else "")
     for n in lemmas - definitions:
         target[n] = lemma_name(n, known)
+    for n in variables(antt, definitions | lemmas):
+        target[n] = "_".join(parts(n))
     renamed = {a: b for a, b in target.items() if a != b}
     # names that fall together in a file
     bad = 0
@@ -112,11 +133,7 @@ def main():
     pages = [p for p in files(".") if p.endswith(".md") and "/PORT" not in p]
     for p in antt + rt + pages:
         text = read(p)
-        foreign = set()
-        if not p.endswith(".md"):
-            for m in USE.finditer(text):
-                if not (m[1] + ".").startswith(own) and not m[1].startswith("tie"):
-                    foreign |= {w.split(" as ")[0].strip() for w in m[2].split(",")}
+        foreign = set() if p.endswith(".md") else foreign_names(text, own)
 
         def one(m):
             w = m[0]

@@ -17,16 +17,16 @@ one_told a_line a_line = (refl, refl)
 one_told too_short too_short = (refl, refl)
 
 pub one_tells :
-    {q : Question} {new-text old-text : List ℕ} {before after after' : LineAreas} {r s r' s' : ℕ}
-    → Tells q new-text old-text before after r s → Tells q new-text old-text before after' r' s' → (after ≡ after') × (r ≡ r') × (s ≡ s')
+    {q : Question} {new_text old_text : List ℕ} {before after after' : LineAreas} {r s r' s' : ℕ}
+    → Tells q new_text old_text before after r s → Tells q new_text old_text before after' r' s' → (after ≡ after') × (r ≡ r') × (s ≡ s')
 one_tells T T' =
     let o = one_written T.writes T'.writes in
     let t = one_told (rw o.1 at T.told) T'.told in
     (o.0, t.0, t.1)
 
 pub one_tells_own :
-    {q : Question} {new-text old-text before after after' : List ℕ} {r s r' s' : ℕ}
-    → TellsOwn q new-text old-text before after r s → TellsOwn q new-text old-text before after' r' s' → (after ≡ after') × (r ≡ r') × (s ≡ s')
+    {q : Question} {new_text old_text before after after' : List ℕ} {r s r' s' : ℕ}
+    → TellsOwn q new_text old_text before after r s → TellsOwn q new_text old_text before after' r' s' → (after ≡ after') × (r ≡ r') × (s ≡ s')
 one_tells_own (line_short C l e) (line_short D k f) = (e ∙ sym f, refl, refl)
 one_tells_own (line_short C l e) (line_written D k A f) =
     let c = one_counts C D in absurd (omega (arith, (rw (c.0, c.1) at l), k))

@@ -13,17 +13,17 @@ pub data Told : Written → ℕ → ℕ → Type 0 where
   too_short : {number place : ℕ} → Told (Refused number place) 0 place
 
 -- what a reply over four lent areas tells
-pub record Tells (q : Question) (new-text old-text : List ℕ) (before after : LineAreas) (r short : ℕ) : Type 0 where
+pub record Tells (q : Question) (new_text old_text : List ℕ) (before after : LineAreas) (r short : ℕ) : Type 0 where
   pub reply : Written
-  pub writes : WritesLine q new-text old-text before after reply
+  pub writes : WritesLine q new_text old_text before after reply
   pub told : Told reply r short
 
 -- What a reply tells where the line's area alone is lent: 4 where it is too short, and nothing is written; else the line stands at its front.
-pub data TellsOwn (q : Question) (new-text old-text before after : List ℕ) : ℕ → ℕ → Type 0 where
+pub data TellsOwn (q : Question) (new_text old_text before after : List ℕ) : ℕ → ℕ → Type 0 where
   line_short :
-      {n m : ℕ} → Counts q new-text old-text n m → length before < line_size n m → after ≡ before
-      → TellsOwn q new-text old-text before after 0 4
+      {n m : ℕ} → Counts q new_text old_text n m → length before < line_size n m → after ≡ before
+      → TellsOwn q new_text old_text before after 0 4
   line_written :
-      {n m : ℕ} {l : List ℕ} {lent left : Areas} → Counts q new-text old-text n m → line_size n m ≤ length before
-      → Answers q new-text old-text lent left l → after ≡ l ++ drop (length l) before
-      → TellsOwn q new-text old-text before after (length l) 0
+      {n m : ℕ} {l : List ℕ} {lent left : Areas} → Counts q new_text old_text n m → line_size n m ≤ length before
+      → Answers q new_text old_text lent left l → after ≡ l ++ drop (length l) before
+      → TellsOwn q new_text old_text before after (length l) 0

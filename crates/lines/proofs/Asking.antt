@@ -11,7 +11,7 @@ use Rattle.rules.specs.Numbers.{table_nodes_most}
 use Rattle.rules.specs.Refusals.{area_too_short}
 use Rattle.rules.specs.Line.{Question, against, Answers, first_refused, second_refused, refused_line}
 use Rattle.rules.specs.Replies.{Areas, Reads, accepts, refuses, Replaces, NoRefusal, made, refused, dual_reply}
-use Rattle.rules.specs.Writing.{LineAreas, Counts, lengths, AllLong, LeastShort, marks_short, path_short, scratch_short, line_short, WritesLine, refuses as refuses-area, writes, line_size}
+use Rattle.rules.specs.Writing.{LineAreas, Counts, lengths, AllLong, LeastShort, marks_short, path_short, scratch_short, line_short, WritesLine, refuses as refuses_area, writes, line_size}
 use Rattle.rules.specs.computed.Line.{verdict_line}
 use Rattle.rules.specs.computed.Reading.{reading}
 use Rattle.rules.proofs.Agreement.{reads_reading}
@@ -29,7 +29,7 @@ use Rattle.table.specs.declared.answers.Verdict.TheVariants as the
 use Rattle.table.specs.declared.answers.Written.{Written}
 use Rattle.table.specs.declared.answers.Written.TheVariants as written
 use Rattle.lines.specs.Adding.{Adds, StepsInPath}
-use Rattle.lines.specs.Asking.{asked, Checked, all_long, short, WritesRefusal, too_short, written as refusal-written}
+use Rattle.lines.specs.Asking.{asked, Checked, all_long, short, WritesRefusal, too_short, written as refusal_written}
 use Rattle.lines.proofs.Adding.{at_front, front_length}
 
 -- an answer is one of the two
@@ -57,16 +57,16 @@ pub against-dual :
 against-dual b R e p = rw (e, p, text_dual_given R) refl
 
 -- Both texts were read: x is the table of the new one, and y is what it is held against.
-pub record Both (q : Question) (new-text old-text : List ℕ) (x y : Table) : Type 0 where
+pub record Both (q : Question) (new_text old_text : List ℕ) (x y : Table) : Type 0 where
   pub other : Table
-  pub new_read : Reads new-text (made x)
-  pub old_read : Reads old-text (made other)
+  pub new_read : Reads new_text (made x)
+  pub old_read : Reads old_text (made other)
   pub against_it : y ≡ against q other
 
 pub both_read :
-    {new-text old-text : List ℕ} {first second : Made} {y : Table} (b : Bool) → Reads new-text first × Reads old-text second
+    {new_text old_text : List ℕ} {first second : Made} {y : Table} (b : Bool) → Reads new_text first × Reads old_text second
     → first.answer ≡ answer.Accepted → second.answer ≡ answer.Accepted → y ≡ against (asked b) second.table
-    → Both (asked b) new-text old-text first.table y
+    → Both (asked b) new_text old_text first.table y
 both_read {second} b R f g e =
     record { other = second.table; new_read = read_accepted R.0 f; old_read = read_accepted R.1 g; against_it = e }
 
@@ -75,7 +75,7 @@ module _ {number which place : ℕ} {before after : List ℕ} where
   pub refusal_put :
       {r : ℕ} → line_size 0 0 ≤ length before → length (refused_line number which place) ≤ length before
       → Adds before 0 (refused_line number which place) after r → WritesRefusal number which place before after (written.Line r)
-  refusal_put l m A = rw (front_length A) (refusal-written l (at_front A m))
+  refusal_put l m A = rw (front_length A) (refusal_written l (at_front A m))
 
 no_pairs_new : (k m : ℕ) → k * 0 * m ≡ 0
 no_pairs_new k m = let e : k * 0 ≡ 0 = mul-zero k in rw e (zero-mul m)
@@ -94,30 +94,30 @@ module _ (before : LineAreas) {n m : ℕ} (none : (k : ℕ) → k * n * m ≡ 0)
       }
 
   refused_reply :
-      {q : Question} {new-text old-text : List ℕ} {after : LineAreas} {number which place : ℕ} {r : Written} → Counts q new-text old-text n m
-      → after.lent ≡ before.lent → Answers q new-text old-text before.lent after.lent (refused_line number which place)
-      → WritesRefusal number which place before.line after.line r → WritesLine q new-text old-text before after r
-  refused_reply C same A (too_short l e) = refuses-area C (nothing_short l) (λ i. record { lent = same i; line = e i })
-  refused_reply C same A (refusal-written l e) = writes C (nothing_long l) A e
+      {q : Question} {new_text old_text : List ℕ} {after : LineAreas} {number which place : ℕ} {r : Written} → Counts q new_text old_text n m
+      → after.lent ≡ before.lent → Answers q new_text old_text before.lent after.lent (refused_line number which place)
+      → WritesRefusal number which place before.line after.line r → WritesLine q new_text old_text before after r
+  refused_reply C same A (too_short l e) = refuses_area C (nothing_short l) (λ i. record { lent = same i; line = e i })
+  refused_reply C same A (refusal_written l e) = writes C (nothing_long l) A e
 
-module _ {q : Question} {new-text old-text : List ℕ} {before after : LineAreas} {n p : ℕ} {r : Written} (same : after.lent ≡ before.lent) where
+module _ {q : Question} {new_text old_text : List ℕ} {before after : LineAreas} {n p : ℕ} {r : Written} (same : after.lent ≡ before.lent) where
   pub first_reply :
-      Reads new-text (refused n p) → WritesRefusal n 1 p before.line after.line r → WritesLine q new-text old-text before after r
+      Reads new_text (refused n p) → WritesRefusal n 1 p before.line after.line r → WritesLine q new_text old_text before after r
   first_reply R W =
-      refused_reply before (λ k. no_pairs_new k (against q (reading old-text).table).count)
+      refused_reply before (λ k. no_pairs_new k (against q (reading old_text).table).count)
       (record {
         first = refused n p;
-        second = reading old-text;
+        second = reading old_text;
         first_read = R;
-        second_read = reads_reading old-text;
+        second_read = reads_reading old_text;
         new_count = refl;
         old_count = refl;
       })
       same (first_refused R same) W
 
   pub second_reply :
-      {new : Table} → Reads new-text (made new) → Reads old-text (refused n p) → WritesRefusal n 2 p before.line after.line r
-      → WritesLine q new-text old-text before after r
+      {new : Table} → Reads new_text (made new) → Reads old_text (refused n p) → WritesRefusal n 2 p before.line after.line r
+      → WritesLine q new_text old_text before after r
   second_reply {new} N R W =
       refused_reply before (λ k. mul-zero (k * new.count))
       (record {
@@ -131,8 +131,8 @@ module _ {q : Question} {new-text old-text : List ℕ} {before after : LineAreas
       same (second_refused N R same) W
 
 -- The reply where both were read.
-module _ {q : Question} {new-text old-text : List ℕ} {x y : Table} (B : Both q new-text old-text x y) where
-  counts : Counts q new-text old-text x.count y.count
+module _ {q : Question} {new_text old_text : List ℕ} {x y : Table} (B : Both q new_text old_text x y) where
+  counts : Counts q new_text old_text x.count y.count
   counts =
       record {
         first = made x;
@@ -148,9 +148,9 @@ module _ {q : Question} {new-text old-text : List ℕ} {x y : Table} (B : Both q
 
   pub short_reply :
       {before : LineAreas} {p : ℕ} → Checked x.count y.count (lengths before) p → (p ≡ 0 → ⊥)
-      → WritesLine q new-text old-text before before (written.Refused area_too_short p)
+      → WritesLine q new_text old_text before before (written.Refused area_too_short p)
   short_reply (all_long l) f = absurd (f refl)
-  short_reply (short l) f = refuses-area counts l refl
+  short_reply (short l) f = refuses_area counts l refl
 
   module _ (before : LineAreas) {p : ℕ} (K : Checked x.count y.count (lengths before) p) (z : p ≡ 0) where
     long : AllLong x.count y.count (lengths before)
@@ -164,21 +164,21 @@ module _ {q : Question} {new-text old-text : List ℕ} {x y : Table} (B : Both q
         go (short (line_short a b c d)) e = absurd (omega arith)
 
     -- nothing stands in the way of a verdict
-    pub no_refusal : NoRefusal x new-text y old-text before.lent
+    pub no_refusal : NoRefusal x new_text y old_text before.lent
     no_refusal =
         rw B.against_it
         (texts_not_refused q B.new_read B.old_read (rw B.against_it at long).marks_long (rw B.against_it at long).path_long
         (rw B.against_it at long).scratch_long)
 
-    module _ (after : Areas) {v : Verdict} (R : Replaces x new-text y old-text before.lent after v) where
-      answers : Answers q new-text old-text before.lent after (verdict_line v after.path)
+    module _ (after : Areas) {v : Verdict} (R : Replaces x new_text y old_text before.lent after v) where
+      answers : Answers q new_text old_text before.lent after (verdict_line v after.path)
       answers =
           verdict_answers q B.new_read B.old_read (rw B.against_it at no_refusal) v after (rw B.against_it at R)
 
       pub verdict_fits : StepsInPath v after.path × (length (verdict_line v after.path) ≤ length before.line)
       verdict_fits = (go v R, omega (arith, line_length counts answers, long.line_long))
         where
-          go : (v : Verdict) → Replaces x new-text y old-text before.lent after v → StepsInPath v after.path
+          go : (v : Verdict) → Replaces x new_text y old_text before.lent after v → StepsInPath v after.path
           go (the.Yes c) R = tt
           go (the.No f) R =
               let X = (no_means R).1 in
@@ -188,5 +188,5 @@ module _ {q : Question} {new-text old-text : List ℕ} {x y : Table} (B : Both q
 
       pub verdict_reply :
           {line : List ℕ} {r : ℕ} → Adds before.line 0 (verdict_line v after.path) line r
-          → WritesLine q new-text old-text before (record { lent = after; line = line }) (written.Line r)
+          → WritesLine q new_text old_text before (record { lent = after; line = line }) (written.Line r)
       verdict_reply A = rw (front_length A) (writes counts long answers (at_front A verdict_fits.1))

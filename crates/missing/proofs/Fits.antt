@@ -40,20 +40,20 @@ module _ (x y : Node) (turn d : ℕ) where
       → {n : ℕ} → n ≡ label_count z → NodesFit (ltb d n)
   fits_by_detail c k z n = rw (c, eq-eqb (kind_number x.kind) (kind_number y.kind) k, n, z) refl
 
-module _ (new : Table) (new-names : List ℕ) (old : Table) (old-names : List ℕ) (f : Found) where
+module _ (new : Table) (new_names : List ℕ) (old : Table) (old_names : List ℕ) (f : Found) where
   -- the answer does not fit
   abbrev Unfit : Type 0
-  Unfit = found_fits new new-names old old-names f ≡ false
+  Unfit = found_fits new new_names old old_names f ≡ false
 
   pub other_reason : (f.reason ≡ 23 → ⊥) → Unfit
   unfolding found_fits
   other_reason h = rw (ne_eqb f.reason 23 h) refl
 
-  pub new_unformed : well_formed new new-names ≡ false → Unfit
+  pub new_unformed : well_formed new new_names ≡ false → Unfit
   unfolding found_fits
   new_unformed e = rw (e, and-false)
 
-  pub old_unformed : well_formed old old-names ≡ false → Unfit
+  pub old_unformed : well_formed old old_names ≡ false → Unfit
   unfolding found_fits
   old_unformed e = rw (e, and-false)
 
@@ -71,9 +71,9 @@ module _ (new : Table) (new-names : List ℕ) (old : Table) (old-names : List �
 
   -- all but the last three tests pass
   pub fits_by_nodes :
-      f.reason ≡ 23 → well_formed new new-names ≡ true → well_formed old old-names ≡ true → f.new < new.count → f.old < old.count
+      f.reason ≡ 23 → well_formed new new_names ≡ true → well_formed old old_names ≡ true → f.new < new.count → f.old < old.count
       → f.turn < 2
-      → found_fits new new-names old old-names f
+      → found_fits new new_names old old_names f
       ≡ (is_choice (node_at new f.new).kind
       && eqb (kind_number (node_at new f.new).kind) (kind_number (node_at old f.old).kind)
       && ltb f.detail
@@ -83,39 +83,39 @@ module _ (new : Table) (new-names : List ℕ) (old : Table) (old-names : List �
       rw (eq-eqb f.reason 23 r, x, y, lt-ltb f.new new.count l, lt-ltb f.old old.count m, lt-ltb f.turn 2 u) refl
 
   -- the missing label of the answer no
-  pub not_missing : Unfit → missing_label new new-names old old-names (No f) ≡ []
+  pub not_missing : Unfit → missing_label new new_names old old_names (No f) ≡ []
   unfolding missing_label
   not_missing e = rw (missing_label, e) refl
 
-  module _ (fits : found_fits new new-names old old-names f ≡ true) where
+  module _ (fits : found_fits new new_names old old_names f ≡ true) where
     -- both nodes are there, also in the arrays
     pub new_node_there : (f.new < new.count) × (new.count ≤ table_nodes_most)
     unfolding found_fits
     new_node_there = (
       ltb-true _ _ (search (and_elim_left, and_elim_right)),
-      (formed {t = new} {names = new-names} (search (and_elim_left, and_elim_right) depth 9)).few_nodes,
+      (formed {t = new} {names = new_names} (search (and_elim_left, and_elim_right) depth 9)).few_nodes,
     )
 
     pub old_node_there : (f.old < old.count) × (old.count ≤ table_nodes_most)
     unfolding found_fits
     old_node_there = (
       ltb-true _ _ (search (and_elim_left, and_elim_right)),
-      (formed {t = old} {names = old-names} (search (and_elim_left, and_elim_right) depth 9)).few_nodes,
+      (formed {t = old} {names = old_names} (search (and_elim_left, and_elim_right) depth 9)).few_nodes,
     )
 
     pub missing_spelled :
-        missing_label new new-names old old-names (No f)
+        missing_label new new_names old old_names (No f)
         ≡ spelling_at (of_chooser (node_at new f.new).kind f.turn (node_at new f.new) (node_at old f.old))
-        (of_chooser (node_at new f.new).kind f.turn new-names old-names) f.detail
+        (of_chooser (node_at new f.new).kind f.turn new_names old_names) f.detail
     unfolding missing_label chooser chooser_names
     missing_spelled = rw (missing_label, fits) refl
 
-module _ (new : Table) (new-names : List ℕ) (old : Table) (old-names : List ℕ) where
+module _ (new : Table) (new_names : List ℕ) (old : Table) (old_names : List ℕ) where
   -- any other answer has none
-  pub none_after_yes : {v : Verdict} {n : ℕ} → v ≡ Yes n → missing_label new new-names old old-names v ≡ []
+  pub none_after_yes : {v : Verdict} {n : ℕ} → v ≡ Yes n → missing_label new new_names old old_names v ≡ []
   unfolding missing_label
   none_after_yes e = rw (e, missing_label) refl
 
-  pub none_after_refusal : {v : Verdict} {n p : ℕ} → v ≡ Refused n p → missing_label new new-names old old-names v ≡ []
+  pub none_after_refusal : {v : Verdict} {n p : ℕ} → v ≡ Refused n p → missing_label new new_names old old_names v ≡ []
   unfolding missing_label
   none_after_refusal e = rw (e, missing_label) refl

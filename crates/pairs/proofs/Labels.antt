@@ -108,17 +108,17 @@ module _
         → Covers x xs y ys (record { wrong = mismatch.Label i; places = places })
     unfolding label_lacking lacks position
     lacks_one {at = at} l f e m =
-        let at-its-position : at ≡ position (spelling_at x xs i) y ys = rw (f, counted) at e in
+        let at_its_position : at ≡ position (spelling_at x xs i) y ys = rw (f, counted) at e in
         let lacking : lacks x xs y ys i ≡ true = le-leb (label_count y) (position (spelling_at x xs i) y ys) (omega arith) in
-        let i-first = first_here {p = lacks x xs y ys} i l before_lacks_none lacking in
-        record { wrong = rw (← i-first, lt-leb (label_count x) i l) refl; placed = λ f. absurd (omega (arith, ap reason f)) }
+        let i_first = first_here {p = lacks x xs y ys} i l before_lacks_none lacking in
+        record { wrong = rw (← i_first, lt-leb (label_count x) i l) refl; placed = λ f. absurd (omega (arith, ap reason f)) }
 
     -- each label is found
     pub lacks_none : i ≡ label_count x → Covers x xs y ys (record { wrong = mismatch.Nothing; places = places })
     unfolding label_lacking position
     lacks_none e =
-        let i-first = first_nowhere {p = lacks x xs y ys} i e before_lacks_none in
+        let i_first = first_nowhere {p = lacks x xs y ys} i e before_lacks_none in
         record {
-          wrong = rw (← i-first, le-leb (label_count x) i (omega arith)) refl;
+          wrong = rw (← i_first, le-leb (label_count x) i (omega arith)) refl;
           placed = λ f j l. before_placed.placed j (omega arith);
         }

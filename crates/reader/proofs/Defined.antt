@@ -13,7 +13,7 @@ use Rattle.rules.specs.Tokens.{Token, one_byte, symbols}
 use Rattle.rules.specs.Notation.{Ty}
 use Rattle.rules.specs.Numbers.{text_most}
 use Rattle.rules.specs.Numbering.{behind}
-use Rattle.rules.specs.Refusals.{a_definition, nothing-new, one_of}
+use Rattle.rules.specs.Refusals.{a_definition, nothing_new, one_of}
 use Rattle.rules.proofs.Machine.{this, a_type, Stack}
 use Rattle.rules.proofs.Reached.{Reached}
 use Rattle.rules.proofs.OneToken.{counted, next_symbol}
@@ -40,7 +40,7 @@ equals : Plain (code "=")
 unfolding one_of first
 equals = record { byte = omega arith; no_opening = refl; no_closing = refl; no_node = refl }
 
-equals_next : next_symbol (one_byte (code "=")) ≡ nothing-new
+equals_next : next_symbol (one_byte (code "=")) ≡ nothing_new
 unfolding one_of first
 equals_next = refl
 
@@ -53,8 +53,8 @@ unfolding one_of first
 stop_next = refl
 
 module _ {s : List ℕ} (l : length s ≤ text_most) (a b d : List ℕ) {t : Taken} (n : ℕ) {r₁ : Got} (g₁ : Named s d t n r₁) where
-  pub definition-told₁ : {m p : ℕ} → r₁ ≡ Refused m p → (a' b' d' : List ℕ) → DefinitionRead s a b d a' b' d' t n r₁
-  definition-told₁ e a' b' d' = rw e (record { told = λ ts J h f r. refused (name-refused l d n h f r (rw e at g₁)) })
+  pub definition_told₁ : {m p : ℕ} → r₁ ≡ Refused m p → (a' b' d' : List ℕ) → DefinitionRead s a b d a' b' d' t n r₁
+  definition_told₁ e a' b' d' = rw e (record { told = λ ts J h f r. refused (name-refused l d n h f r (rw e at g₁)) })
 
   module _ {v : ℕ} {c₁ : Cursor} (e₁ : r₁ ≡ Past v c₁) {r₂ : Got} (g₂ : Signed s c₁ (code "=") r₂) where
     name : NewName s d t n
@@ -66,8 +66,8 @@ module _ {s : List ℕ} (l : length s ≤ text_most) (a b d : List ℕ) {t : Tak
     abbrev names : List (List ℕ)
     names = part s t.at t.len ∷ words_of s d 0 n
 
-    pub definition-told₂ : {m p : ℕ} → r₂ ≡ Refused m p → {a' b' d' : List ℕ} → DefinitionRead s a b d a' b' d' t n r₂
-    definition-told₂ e =
+    pub definition_told₂ : {m p : ℕ} → r₂ ≡ Refused m p → {a' b' d' : List ℕ} → DefinitionRead s a b d a' b' d' t n r₂
+    definition_told₂ e =
         let h₂ = equals_at in
         rw e (record { told = λ ts J h f r. refused (sign-refused l t.next.nodes names [] (omega arith) (rw e at h₂) (behind_name l d n h f r name)) })
 
@@ -77,7 +77,7 @@ module _ {s : List ℕ} (l : length s ≤ text_most) (a b d : List ℕ) {t : Tak
 
       behind_equals :
           {ts : List Token} {J : Stack} → Ahead s t ts → Starts J ts → Reached s ts J (counted a_definition t.next.nodes (words_of s d 0 n) [])
-          → Reached s (tokens_behind s c₂.at) (a_type ∷ this (code ".") ∷ []) (counted nothing-new t₃.next.nodes names [])
+          → Reached s (tokens_behind s c₂.at) (a_type ∷ this (code ".") ∷ []) (counted nothing_new t₃.next.nodes names [])
           × (symbols (tokens_behind s t.next.at) ≡ one_byte (code "=") ∷ symbols (tokens_behind s c₂.at))
       behind_equals h f r =
           let o = sign-past l t.next.nodes names [] equals equals_past (behind_name l d n h f r name) in
@@ -87,14 +87,14 @@ module _ {s : List ℕ} (l : length s ≤ text_most) (a b d : List ℕ) {t : Tak
       type_told :
           {ts : List Token} {J : Stack} {a₁ b₁ : List ℕ} {r₃ : Got} → TypeRead s a b a₁ b₁ t₃ 0 r₃ → Ahead s t ts → Starts J ts
           → Reached s ts J (counted a_definition t.next.nodes (words_of s d 0 n) [])
-          → TypeGot s a b a₁ b₁ t₃ (tokens_behind s c₂.at) (this (code ".") ∷ []) nothing-new names [] r₃
+          → TypeGot s a b a₁ b₁ t₃ (tokens_behind s c₂.at) (this (code ".") ∷ []) nothing_new names [] r₃
       type_told g₃ h f r =
-          g₃.told (tokens_behind s c₂.at) a_type (this (code ".") ∷ []) (this (code ".") ∷ []) nothing-new names [] k₃.ahead
+          g₃.told (tokens_behind s c₂.at) a_type (this (code ".") ∷ []) (this (code ".") ∷ []) nothing_new names [] k₃.ahead
           (acts_self (a_type ∷ this (code ".") ∷ []) (tokens_behind s c₂.at)) (behind_equals h f r).0 alone refl
 
-      pub definition-told₃ :
+      pub definition_told₃ :
           {a₁ b₁ : List ℕ} {r₃ : Got} → TypeRead s a b a₁ b₁ t₃ 0 r₃ → {m p : ℕ} → r₃ ≡ Refused m p → (d' : List ℕ) → DefinitionRead s a b d a₁ b₁ d' t n r₃
-      definition-told₃ g₃ e d' = rw e (record { told = λ ts J h f r. refused (refused_type (type_told (rw e at g₃) h f r)) })
+      definition_told₃ g₃ e d' = rw e (record { told = λ ts J h f r. refused (refused_type (type_told (rw e at g₃) h f r)) })
 
       module _ (a₁ b₁ : List ℕ) (link : ℕ) (c₃ : Cursor) (long : length d ≡ rows_room) (d' : List ℕ) (st : d' ≡ stored_definition d n t link) where
         -- the names so far, with this one
@@ -110,7 +110,7 @@ module _ {s : List ℕ} (l : length s ≤ text_most) (a b d : List ℕ) {t : Tak
 
         done :
             {ts : List Token} {J : Stack} {c₄ : Cursor} {v₄ : ℕ} (h : Ahead s t ts) (f : Starts J ts) (r : Reached s ts J (counted a_definition t.next.nodes (words_of s d 0 n) [])) (x : Ty)
-            → PastType s a b a₁ b₁ t₃ (tokens_behind s c₂.at) (this (code ".") ∷ []) nothing-new names [] x link c₃
+            → PastType s a b a₁ b₁ t₃ (tokens_behind s c₂.at) (this (code ".") ∷ []) nothing_new names [] x link c₃
             → Signed s c₃ (code ".") (Past v₄ c₄)
             → PastDefinition s a b d a₁ b₁ d' t ts n (took_word h name.is_word).token x c₄
         done {ts} {c₄ = c₄} h f r x p g₄ =
@@ -140,12 +140,12 @@ module _ {s : List ℕ} (l : length s ≤ text_most) (a b d : List ℕ) {t : Tak
 
         ended :
             {ts : List Token} {J : Stack} {r₄ : Got} (h : Ahead s t ts) (f : Starts J ts) (r : Reached s ts J (counted a_definition t.next.nodes (words_of s d 0 n) [])) (x : Ty)
-            → PastType s a b a₁ b₁ t₃ (tokens_behind s c₂.at) (this (code ".") ∷ []) nothing-new names [] x link c₃
+            → PastType s a b a₁ b₁ t₃ (tokens_behind s c₂.at) (this (code ".") ∷ []) nothing_new names [] x link c₃
             → Signed s c₃ (code ".") r₄ → DefinitionGot s a b d a₁ b₁ d' t ts n r₄
         ended h f r x p (not_signed k e) = refused (sign-refused l c₃.nodes names [] (omega arith) (not_signed k e) p.reached)
         ended h f r x p (signed k e) = past (took_word h name.is_word).token x (done h f r x p (signed k e))
 
-        pub definition-told₄ :
+        pub definition_told₄ :
             {r₃ r₄ : Got} → TypeRead s a b a₁ b₁ t₃ 0 r₃ → r₃ ≡ Past link c₃ → Signed s c₃ (code ".") r₄ → DefinitionRead s a b d a₁ b₁ d' t n r₄
-        definition-told₄ g₃ e g₄ =
+        definition_told₄ g₃ e g₄ =
             record { told = λ ts J h f r. let p = past_type (type_told (rw e at g₃) h f r) in ended h f r p.0 p.1 g₄ }

@@ -14,7 +14,7 @@ use Rattle.rules.specs.Basics.{part, same}
 use Rattle.rules.specs.Words.{word_most}
 use Rattle.rules.specs.Tokens.{Token, Symbol, word, reserved_word, one_byte, symbol}
 use Rattle.rules.specs.Numbers.{text_most, definitions_most}
-use Rattle.rules.specs.Refusals.{a_definition, nothing-new, one_of, among, Seen, unexpected, one_too_many}
+use Rattle.rules.specs.Refusals.{a_definition, nothing_new, one_of, among, Seen, unexpected, one_too_many}
 use Rattle.rules.specs.Refusals as refusal
 use Rattle.rules.specs.computed.Reading.{token_fault, lowest, if_so}
 use Rattle.rules.proofs.Basics.{first_found}
@@ -120,7 +120,7 @@ module _ {s : List ℕ} (l : length s ≤ text_most) (d : List ℕ) {t : Taken} 
   pub behind_name :
       NewName s d t n
       → Reached s (tokens_behind s t.next.at) (in_definition [])
-      (counted nothing-new t.next.nodes (part s t.at t.len ∷ words_of s d 0 n) [])
+      (counted nothing_new t.next.nodes (part s t.at t.len ∷ words_of s d 0 n) [])
   unfolding one_of
   behind_name g =
       let k = took_word h g.is_word in

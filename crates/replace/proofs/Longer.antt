@@ -38,7 +38,7 @@ drop_longer (suc k) zero s l = absurd (omega arith)
 drop_longer (suc k) (suc n) [] l = refl
 drop_longer (suc k) (suc n) (x ∷ s) l = drop_longer k n s (omega arith)
 
-module _ {new : Table} {new-names : List ℕ} {old : Table} {old-names : List ℕ} {before : Areas} (F : NoRefusal new new-names old old-names before) where
+module _ {new : Table} {new_names : List ℕ} {old : Table} {old_names : List ℕ} {before : Areas} (F : NoRefusal new new_names old old_names before) where
   abbrev N : ℕ
   N = pair_count new old
 
@@ -50,7 +50,7 @@ module _ {new : Table} {new-names : List ℕ} {old : Table} {old-names : List �
         scratch = take (scratch_size new old) before.scratch;
       }
 
-  parts_no_refusal : NoRefusal new new-names old old-names first_parts
+  parts_no_refusal : NoRefusal new new_names old old_names first_parts
   parts_no_refusal =
       record {
         new_formed = F.new_formed;
@@ -69,37 +69,37 @@ module _ {new : Table} {new-names : List ℕ} {old : Table} {old-names : List �
         scratch = a.scratch ++ drop (scratch_size new old) before.scratch;
       }
 
-  module _ {after : Areas} (marks-kept : length after.marks ≡ N) (path-kept : length after.path ≡ N) where
-    yes_longer : {c : ℕ} → SaysYes new new-names old old-names first_parts after c → SaysYes new new-names old old-names before (wholes after) c
+  module _ {after : Areas} (marks_kept : length after.marks ≡ N) (path_kept : length after.path ≡ N) where
+    yes_longer : {c : ℕ} → SaysYes new new_names old old_names first_parts after c → SaysYes new new_names old old_names before (wholes after) c
     yes_longer Y =
         record {
           set = Y.set;
           smallest = Y.smallest;
           size =
               length-append after.marks (drop N before.marks)
-              ∙ omega (arith, marks-kept, length-drop N before.marks, F.marks_long);
+              ∙ omega (arith, marks_kept, length-drop N before.marks, F.marks_long);
           marked =
               λ p t n o.
               let w : Within new old p = record { turn_below = t; new_below = n; old_below = o } in
-              get_or-append after.marks (drop N before.marks) 0 (mark_place new old p) (omega (arith, marks-kept, place_below w))
+              get_or-append after.marks (drop N before.marks) 0 (mark_place new old p) (omega (arith, marks_kept, place_below w))
               ∙ Y.marked p t n o;
-          beyond = drop_at after.marks (drop N before.marks) N marks-kept;
+          beyond = drop_at after.marks (drop N before.marks) N marks_kept;
           counted =
               Y.counted
               ∙ ap count_marks
-              (take_all N after.marks (omega arith) ∙ sym (take_at after.marks (drop N before.marks) N marks-kept));
+              (take_all N after.marks (omega arith) ∙ sym (take_at after.marks (drop N before.marks) N marks_kept));
           path = ap (λ (x : List ℕ). x ++ drop N before.path) Y.path ∙ take-append-drop N before.path;
           scratch =
               ap (λ (x : List ℕ). x ++ drop (scratch_size new old) before.scratch) Y.scratch
               ∙ cleared_longer before.scratch F.scratch_long;
         }
 
-    no_longer : {f : Found} → SaysNo new new-names old old-names first_parts after f → SaysNo new new-names old old-names before (wholes after) f
+    no_longer : {f : Found} → SaysNo new new_names old old_names first_parts after f → SaysNo new new_names old old_names before (wholes after) f
     no_longer X =
         let short : length X.run ≤ N =
         omega (
           arith,
-          path-kept,
+          path_kept,
           ap length X.path ∙ length-append X.run (drop (length X.run) (take N before.path)),
         ) in
         record {
@@ -121,8 +121,8 @@ module _ {new : Table} {new-names : List ℕ} {old : Table} {old-names : List �
         }
 
     replaces_longer :
-        (v : Verdict) → Replaces new new-names old old-names first_parts after v
-        → Replaces new new-names old old-names before (wholes after) v
+        (v : Verdict) → Replaces new new_names old old_names first_parts after v
+        → Replaces new new_names old old_names before (wholes after) v
     replaces_longer (the.Yes c) (says_yes G Y) = says_yes F (yes_longer Y)
     replaces_longer (the.No f) (says_no G X) = says_no F (no_longer X)
     replaces_longer (the.Refused n p) R = absurd (never_refused parts_no_refusal R)
@@ -131,9 +131,9 @@ pub twice_scratch : {size : ℕ} (new old : Table) → size ≡ pair_count new o
 twice_scratch new old e = omega (arith, e, scratch_twice new.count old.count)
 
 pub none_applies :
-    {new : Table} {new-names : List ℕ} {old : Table} {old-names marks path scratch : List ℕ} {size : ℕ} → well_formed new new-names ≡ true
-    → well_formed old old-names ≡ true → size ≡ pair_count new old → size ≤ length marks → size ≤ length path → size + size ≤ length scratch
-    → NoRefusal new new-names old old-names (record { marks = marks; path = path; scratch = scratch })
+    {new : Table} {new_names : List ℕ} {old : Table} {old_names marks path scratch : List ℕ} {size : ℕ} → well_formed new new_names ≡ true
+    → well_formed old old_names ≡ true → size ≡ pair_count new old → size ≤ length marks → size ≤ length path → size + size ≤ length scratch
+    → NoRefusal new new_names old old_names (record { marks = marks; path = path; scratch = scratch })
 none_applies {new} {old} f g e m p s =
     record {
       new_formed = f;
@@ -148,7 +148,7 @@ pub taken_long : {n : ℕ} (a b : List ℕ) → length a ≡ n → n ≡ length 
 taken_long {n} a b l = sym (ap length (take_at a b n l) ∙ l)
 
 -- No refusal applies. The search is over the areas' first parts, and so is the reply to its end.
-module _ {new : Table} {new-names : List ℕ} {old : Table} {old-names marks path scratch : List ℕ} (F : NoRefusal new new-names old old-names (record { marks = marks; path = path; scratch = scratch })) {size : ℕ} (e : size ≡ pair_count new old) where
+module _ {new : Table} {new_names : List ℕ} {old : Table} {old_names marks path scratch : List ℕ} (F : NoRefusal new new_names old old_names (record { marks = marks; path = path; scratch = scratch })) {size : ℕ} (e : size ≡ pair_count new old) where
   pub marks_part : length (take size marks) ≡ size
   marks_part = part_long marks (omega (arith, e, F.marks_long))
 
@@ -158,7 +158,7 @@ module _ {new : Table} {new-names : List ℕ} {old : Table} {old-names marks pat
   pub scratch_part : length (take (size + size) scratch) ≡ size + size
   scratch_part = part_long scratch (omega (arith, twice_scratch new old e, F.scratch_long))
 
-  module _ {marks₁ scratch₁ : List ℕ} (l₁ : length marks₁ ≡ size) (k₁ : length scratch₁ ≡ size + size) {n m : ℕ} (en : n ≡ new.count) (em : m ≡ old.count) {ended : Ended} (E : EndedAt new new-names old old-names marks₁ scratch₁ ended) where
+  module _ {marks₁ scratch₁ : List ℕ} (l₁ : length marks₁ ≡ size) (k₁ : length scratch₁ ≡ size + size) {n m : ℕ} (en : n ≡ new.count) (em : m ≡ old.count) {ended : Ended} (E : EndedAt new new_names old old_names marks₁ scratch₁ ended) where
     pub conclude_asks :
         Concludable n m (take size (marks₁ ++ drop size marks)) (take size path)
         (take (size + size) (scratch₁ ++ drop (size + size) scratch)) ended.tail
@@ -185,7 +185,7 @@ module _ {new : Table} {new-names : List ℕ} {old : Table} {old-names marks pat
         {marks₂ path₂ scratch₂ : List ℕ} {v : Verdict} → length marks₂ ≡ size → length path₂ ≡ size
         → Concludes n m ended (take size (marks₁ ++ drop size marks)) (take size path)
         (take (size + size) (scratch₁ ++ drop (size + size) scratch)) marks₂ path₂ scratch₂ v
-        → Replaces new new-names old old-names (record { marks = marks; path = path; scratch = scratch })
+        → Replaces new new_names old old_names (record { marks = marks; path = path; scratch = scratch })
         (record {
           marks = marks₂ ++ drop size (marks₁ ++ drop size marks);
           path = path₂ ++ drop size path;
@@ -194,15 +194,15 @@ module _ {new : Table} {new-names : List ℕ} {old : Table} {old-names marks pat
         v
     replaces_concluded {marks₂} {path₂} {scratch₂} {v} l₂ p₂ C =
         let d : size + size ≡ scratch_size new old = twice_scratch new old e in
-        let parts : NoRefusal new new-names old old-names
+        let parts : NoRefusal new new_names old old_names
         (record { marks = take size marks; path = take size path; scratch = take (size + size) scratch }) =
         rw (d, e) (parts_no_refusal F) in
-        let ended-there : EndedAt new new-names old old-names (take size (marks₁ ++ drop size marks))
+        let ended_there : EndedAt new new_names old old_names (take size (marks₁ ++ drop size marks))
         (take (size + size) (scratch₁ ++ drop (size + size) scratch)) ended =
         rw (take_at marks₁ (drop size marks) size l₁, take_at scratch₁ (drop (size + size) scratch) (size + size) k₁) E in
         let R =
-        C.replies new new-names old old-names
+        C.replies new new_names old old_names
         (record { marks = take size marks; path = take size path; scratch = take (size + size) scratch }) en em parts
-        (marks_part ∙ e) (scratch_part ∙ d) refl ended-there in
+        (marks_part ∙ e) (scratch_part ∙ d) refl ended_there in
         rw (drop_at marks₁ (drop size marks) size l₁, drop_at scratch₁ (drop (size + size) scratch) (size + size) k₁, d, e)
         (replaces_longer F (l₂ ∙ e) (p₂ ∙ e) v (rw (d, e) at R))

@@ -29,7 +29,7 @@ use Rattle.replace.specs.State.{pair_of, run_of, State, EndedAt}
 use Rattle.replace.specs.Taking.{place_of, stepped, expanded, Ready, Formed, Takes}
 use Rattle.replace.specs.declared.Taken.{Taken}
 
-module _ (new : Table) (new-names : List ℕ) (old : Table) (old-names : List ℕ) (new_formed : WellFormed new new-names) (old_formed : WellFormed old old-names) where
+module _ (new : Table) (new_names : List ℕ) (old : Table) (old_names : List ℕ) (new_formed : WellFormed new new_names) (old_formed : WellFormed old old_names) where
   abbrev N : ℕ
   N = pair_count new old
 
@@ -37,7 +37,7 @@ module _ (new : Table) (new-names : List ℕ) (old : Table) (old-names : List �
   few = pairs_few new_formed.few_nodes old_formed.few_nodes
 
   -- the queue holds the starts alone
-  pub state_begins : State new new-names old old-names (begun N (mark_place new old (starts new old))) 0 0 0
+  pub state_begins : State new new_names old old_names (begun N (mark_place new old (starts new old))) 0 0 0
   state_begins =
       let w : Within new old (starts new old) = starts_within new_formed old_formed in
       let l = place_below w in
@@ -47,23 +47,23 @@ module _ (new : Table) (new-names : List ℕ) (old : Table) (old-names : List �
       record {
         queue = queue_begun few l;
         searched =
-            search_begins (pair_of new new-names old old-names k) (run_of new new-names old old-names k)
+            search_begins (pair_of new new_names old old_names k) (run_of new new_names old old_names k)
             (ap (pair_at new old) e ∙ pair_at_place w) (run_start N k.marks k.scratch);
       }
 
-  entry_within : {k : Kept} {h : ℕ} → Queue N k → h < k.tail → Within new old (pair_of new new-names old old-names k h)
+  entry_within : {k : Kept} {h : ℕ} → Queue N k → h < k.tail → Within new old (pair_of new new_names old old_names k h)
   entry_within {k} {h} Q l = pair_at_within new.count old.count (get_or k.scratch h 0) (Q.inside h l)
 
   -- entry h, whose pair is p, is being expanded, and its steps below s were taken
   record Going (p : Pair) (h s : ℕ) (k : Kept) : Type 0 where
-    state : State new new-names old old-names k (h + 1) h s
+    state : State new new_names old old_names k (h + 1) h s
     there : h < k.tail
-    this : pair_of new new-names old old-names k h ≡ p
+    this : pair_of new new_names old old_names k h ≡ p
 
   module _ (p : Pair) (h s : ℕ) (k : Kept) (G : Going p h s k) where
     skips :
-        ((q : Pair) → step_at new new-names old old-names p s ≡ some q
-        → (j : ℕ) × (j < k.tail) × (pair_of new new-names old old-names k j ≡ q))
+        ((q : Pair) → step_at new new_names old old_names p s ≡ some q
+        → (j : ℕ) × (j < k.tail) × (pair_of new new_names old old_names k j ≡ q))
         → Going p h (s + 1) k
     skips f =
         record {
@@ -72,14 +72,14 @@ module _ (new : Table) (new-names : List ℕ) (old : Table) (old-names : List �
                 queue = G.state.queue;
                 searched =
                     search_skips G.state.searched G.there
-                    (λ q S. f q (ap (λ (x : Pair). step_at new new-names old old-names x s) (sym G.this) ∙ S.leads));
+                    (λ q S. f q (ap (λ (x : Pair). step_at new new_names old old_names x s) (sym G.this) ∙ S.leads));
               };
           there = G.there;
           this = G.this;
         }
 
     pushes :
-        (q : Pair) → Step new new-names old old-names (pair_of new new-names old old-names k h) s q → get_or k.marks (mark_place new old q) 0 ≡ 0
+        (q : Pair) → Step new new_names old old_names (pair_of new new_names old old_names k h) s q → get_or k.marks (mark_place new old q) 0 ≡ 0
         → Going p h (s + 1) (visited N h s (mark_place new old q) k)
     pushes q S free =
         let Q = G.state.queue in
@@ -87,7 +87,7 @@ module _ (new : Table) (new-names : List ℕ) (old : Table) (old-names : List �
         let b = place_below w in
         let tail = visited_tail s Q G.there b free in
         let k' = visited N h s (mark_place new old q) k in
-        let kept : (j : ℕ) → j < k.tail → pair_of new new-names old old-names k' j ≡ pair_of new new-names old old-names k j =
+        let kept : (j : ℕ) → j < k.tail → pair_of new new_names old old_names k' j ≡ pair_of new new_names old old_names k j =
         λ j l. ap (pair_at new old) (entry_kept s Q G.there b free j l) in
         record {
           state =
@@ -96,7 +96,7 @@ module _ (new : Table) (new-names : List ℕ) (old : Table) (old-names : List �
                 searched =
                     subst
                     (λ (n : ℕ).
-                    Searched new new-names old old-names (pair_of new new-names old old-names k') (run_of new new-names old old-names k') n (h + 1) h (s + 1))
+                    Searched new new_names old old_names (pair_of new new_names old old_names k') (run_of new new_names old old_names k') n (h + 1) h (s + 1))
                     (sym tail)
                     (search_pushes kept (run_kept s Q G.there b free) G.state.searched (omega (arith, G.there)) G.there S
                     (ap (pair_at new old) (visited_entry s Q G.there b free) ∙ pair_at_place w) (run_new s Q G.there b free));
@@ -105,14 +105,14 @@ module _ (new : Table) (new-names : List ℕ) (old : Table) (old-names : List �
           this = kept h G.there ∙ G.this;
         }
 
-    visits : (q : Pair) → step_at new new-names old old-names p s ≡ some q → Going p h (s + 1) (visited N h s (mark_place new old q) k)
+    visits : (q : Pair) → step_at new new_names old old_names p s ≡ some q → Going p h (s + 1) (visited N h s (mark_place new old q) k)
     visits q e = go (ℕ_discrete (get_or k.marks (mark_place new old q) 0) 0)
       where
-        S : Step new new-names old old-names (pair_of new new-names old old-names k h) s q
+        S : Step new new_names old old_names (pair_of new new_names old old_names k h) s q
         S =
             record {
               fits = G.state.searched.good h (omega arith);
-              leads = ap (λ (x : Pair). step_at new new-names old old-names x s) G.this ∙ e;
+              leads = ap (λ (x : Pair). step_at new new_names old old_names x s) G.this ∙ e;
             }
 
         go : Dec (get_or k.marks (mark_place new old q) 0 ≡ 0) → Going p h (s + 1) (visited N h s (mark_place new old q) k)
@@ -127,18 +127,18 @@ module _ (new : Table) (new-names : List ℕ) (old : Table) (old-names : List �
               ap (pair_at new old) v.2 ∙ pair_at_place w ∙ some-injective q r (sym e ∙ d),
             )))
 
-    steps : Going p h (s + 1) (stepped N h s (place_of new.count old.count (step_at new new-names old old-names p s)) k)
-    steps = go (step_at new new-names old old-names p s) refl
+    steps : Going p h (s + 1) (stepped N h s (place_of new.count old.count (step_at new new_names old old_names p s)) k)
+    steps = go (step_at new new_names old old_names p s) refl
       where
         go :
-            (o : Option Pair) → step_at new new-names old old-names p s ≡ o
+            (o : Option Pair) → step_at new new_names old old_names p s ≡ o
             → Going p h (s + 1) (stepped N h s (place_of new.count old.count o) k)
         go none e = skips (λ q d. absurd (none_some (sym e ∙ d)))
         go (some q) e = visits q e
 
   -- where the steps of p lead
   abbrev ahead : Pair → ℕ → Option ℕ
-  ahead p i = place_of new.count old.count (step_at new new-names old old-names p i)
+  ahead p i = place_of new.count old.count (step_at new new_names old old_names p i)
 
   expands : (p : Pair) (h : ℕ) (k : Kept) → Going p h 0 k → (s : ℕ) → Going p h s (expanded N h (ahead p) s k)
   unfolding expanded
@@ -150,11 +150,11 @@ module _ (new : Table) (new-names : List ℕ) (old : Table) (old-names : List �
   abbrev Came : Pair → ℕ → Kept → Kept → Taken → Type 0
   Came p h k k' r =
       Takes new.count old.count p.turn h (left_in p.turn (node_at new p.new) (node_at old p.old))
-      (left_in p.turn new-names old-names) (right_in p.turn (node_at new p.new) (node_at old p.old))
-      (right_in p.turn new-names old-names) k k' r
+      (left_in p.turn new_names old_names) (right_in p.turn (node_at new p.new) (node_at old p.old))
+      (right_in p.turn new_names old_names) k k' r
 
   -- Entry h, whose place is a.
-  module _ {k : Kept} {h a : ℕ} (I : State new new-names old old-names k h h 0) (l : h < k.tail) (at : a ≡ get_or k.scratch h 0) where
+  module _ {k : Kept} {h a : ℕ} (I : State new new_names old old_names k h h 0) (l : h < k.tail) (at : a ≡ get_or k.scratch h 0) where
     pub entry_read : h + 1 < 65536
     entry_read = omega (arith, l, queue_fits I.queue, few)
 
@@ -179,8 +179,8 @@ module _ (new : Table) (new-names : List ℕ) (old : Table) (old-names : List �
 
     pub entry_nodes :
         Formed new.count old.count p.turn (left_in p.turn (node_at new p.new) (node_at old p.old))
-        (left_in p.turn new-names old-names) (right_in p.turn (node_at new p.new) (node_at old p.old))
-        (right_in p.turn new-names old-names)
+        (left_in p.turn new_names old_names) (right_in p.turn (node_at new p.new) (node_at old p.old))
+        (right_in p.turn new_names old_names)
     entry_nodes =
         let x = new_formed.each p.new entry_inside.new_below in
         let y = old_formed.each p.old entry_inside.old_below in
@@ -188,17 +188,17 @@ module _ (new : Table) (new-names : List ℕ) (old : Table) (old-names : List �
 
     -- nothing was wrong, and every step was taken
     pub entry_expanded :
-        {k' : Kept} {r : Taken} → Came p h k k' r → r.wrong ≡ Nothing → State new new-names old old-names k' (h + 1) (h + 1) 0
+        {k' : Kept} {r : Taken} → Came p h k k' r → r.wrong ≡ Nothing → State new new_names old old_names k' (h + 1) (h + 1) 0
     unfolding mismatch_at step_at
     entry_expanded {k'} T e =
-        let this : pair_of new new-names old old-names k h ≡ p = ap (pair_at new old) (sym at) in
+        let this : pair_of new new_names old old_names k h ≡ p = ap (pair_at new old) (sym at) in
         let G : Going p h 0 k =
         record {
           state =
               record {
                 queue = I.queue;
                 searched =
-                    search_passes I.searched (ap (mismatch_at new new-names old old-names) this ∙ sym T.wrong ∙ e);
+                    search_passes I.searched (ap (mismatch_at new new_names old old_names) this ∙ sym T.wrong ∙ e);
               };
           there = l;
           this = this;
@@ -215,7 +215,7 @@ module _ (new : Table) (new-names : List ℕ) (old : Table) (old-names : List �
     pub entry_wrong :
         {marks scratch : List ℕ} {r : Taken} → Came p h k (record { marks = marks; scratch = scratch; tail = r.tail }) r
         → (r.wrong ≡ Nothing → ⊥)
-        → EndedAt new new-names old old-names marks scratch (record { at = h; tail = k.tail; wrong = r.wrong })
+        → EndedAt new new_names old old_names marks scratch (record { at = h; tail = k.tail; wrong = r.wrong })
     unfolding mismatch_at
     entry_wrong {marks} {scratch} {r} T ne =
         let e = T.stays ne in
@@ -223,18 +223,18 @@ module _ (new : Table) (new-names : List ℕ) (old : Table) (old-names : List �
         let d : scratch ≡ k.scratch = ap (λ (x : Kept). x.scratch) e in
         record {
           state =
-              subst (λ (x : Kept). State new new-names old old-names x h h 0)
+              subst (λ (x : Kept). State new new_names old old_names x h h 0)
               (λ i. record { marks = sym b i; scratch = sym d i; tail = k.tail }) I;
           wrong =
               λ m.
               T.wrong
-              ∙ ap (λ (x : ℕ). mismatch_at new new-names old old-names (pair_at new old x))
+              ∙ ap (λ (x : ℕ). mismatch_at new new_names old old_names (pair_at new old x))
               (at ∙ ap (λ (x : List ℕ). get_or x h 0) (sym d));
           is_wrong = λ m. ne;
         }
 
   -- the queue's end
   pub ended_all :
-      {k : Kept} {h : ℕ} {w : Mismatch} → State new new-names old old-names k h h 0 → k.tail ≤ h
-      → EndedAt new new-names old old-names k.marks k.scratch (record { at = h; tail = k.tail; wrong = w })
+      {k : Kept} {h : ℕ} {w : Mismatch} → State new new_names old old_names k h h 0 → k.tail ≤ h
+      → EndedAt new new_names old old_names k.marks k.scratch (record { at = h; tail = k.tail; wrong = w })
   ended_all I l = record { state = I; wrong = λ m. absurd (omega arith); is_wrong = λ m. absurd (omega arith) }

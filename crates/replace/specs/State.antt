@@ -14,7 +14,7 @@ use Rattle.table.specs.declared.answers.Mismatch.TheVariants.{Nothing}
 use Rattle.table.specs.declared.answers.Verdict.{Verdict}
 use Rattle.replace.specs.declared.Ended.{Ended}
 
-module _ (new : Table) (new-names : List ℕ) (old : Table) (old-names : List ℕ) where
+module _ (new : Table) (new_names : List ℕ) (old : Table) (old_names : List ℕ) where
   -- the pair and the run of entry j
   abbrev pub pair_of : Kept → ℕ → Pair
   pair_of k j = pair_at new old (get_or k.scratch j 0)
@@ -26,12 +26,12 @@ module _ (new : Table) (new-names : List ℕ) (old : Table) (old-names : List �
   -- the steps below s taken.
   pub record State (k : Kept) (g h s : ℕ) : Type 0 where
     pub queue : Queue (pair_count new old) k
-    pub searched : Searched new new-names old old-names (pair_of k) (run_of k) k.tail g h s
+    pub searched : Searched new new_names old old_names (pair_of k) (run_of k) k.tail g h s
 
   -- the search ended at the queue's end, or at an entry whose pair is a mismatch
   pub record EndedAt (marks scratch : List ℕ) (r : Ended) : Type 0 where
     pub state : State (record { marks = marks; scratch = scratch; tail = r.tail }) r.at r.at 0
-    pub wrong : r.at < r.tail → r.wrong ≡ mismatch_at new new-names old old-names (pair_at new old (get_or scratch r.at 0))
+    pub wrong : r.at < r.tail → r.wrong ≡ mismatch_at new new_names old old_names (pair_at new old (get_or scratch r.at 0))
     pub is_wrong : r.at < r.tail → r.wrong ≡ Nothing → ⊥
 
 -- what is answered of a mismatch at the pair of place a, after so many steps
@@ -58,7 +58,7 @@ pub record Concludable (n m : ℕ) (marks path scratch : List ℕ) (tail : ℕ) 
 -- the reply, for any tables of these sizes over which the search ended so, whatever marks and scratch held before it
 pub record Concludes (n m : ℕ) (ended : Ended) (marks path scratch marks' path' scratch' : List ℕ) (r : Verdict) : Type 0 where
   pub replies :
-      (new : Table) (new-names : List ℕ) (old : Table) (old-names : List ℕ) (before : Areas) → n ≡ new.count → m ≡ old.count
-      → NoRefusal new new-names old old-names before → length before.marks ≡ pair_count new old
-      → length before.scratch ≡ scratch_size new old → before.path ≡ path → EndedAt new new-names old old-names marks scratch ended
-      → Replaces new new-names old old-names before (record { marks = marks'; path = path'; scratch = scratch' }) r
+      (new : Table) (new_names : List ℕ) (old : Table) (old_names : List ℕ) (before : Areas) → n ≡ new.count → m ≡ old.count
+      → NoRefusal new new_names old old_names before → length before.marks ≡ pair_count new old
+      → length before.scratch ≡ scratch_size new old → before.path ≡ path → EndedAt new new_names old old_names marks scratch ended
+      → Replaces new new_names old old_names before (record { marks = marks'; path = path'; scratch = scratch' }) r

@@ -45,13 +45,13 @@ Walked s rest K = Stage s ((z : Seen) × Reached s rest K z)
 
 module _ {s : List ℕ} (short : length s ≤ text_most) where
   walked :
-      {K J : Stack} {ts rest : List Token} {z : Seen} (k : ℕ) → Reached s ts K z → Passes K ts J rest → k + length rest ≡ length ts
+      {J : Stack} {rest : List Token} (k : ℕ) {K : Stack} {ts : List Token} {z : Seen} → Reached s ts K z → Passes K ts J rest → k + length rest ≡ length ts
       → Walked s rest J (walk k z ts)
   unfolding walk
   walked zero R here e = passed (_, R)
   walked zero R (past d p) e = absurd (omega (arith, passes_shorter p))
   walked (suc k) R here e = absurd (omega arith)
-  walked {J} {ts = t ∷ ts} {rest} {z} (suc k) R (past d p) e =
+  walked {J = J} {rest = rest} (suc k) {ts = t ∷ ts} {z = z} R (past d p) e =
       go (token_fault z t) refl (λ f. walked k (reached_on R d f) p (omega arith))
     where
       go :

@@ -51,40 +51,40 @@ met f = record { turn = f.turn; new = f.new; old = f.old }
 abbrev pub Tells : Found → Mismatch → Type 0
 Tells f m = (f.reason ≡ reason m) × (f.detail ≡ detail m)
 
-module _ (new : Table) (new-names : List ℕ) (other : Table) (other-names : List ℕ) where
+module _ (new : Table) (new_names : List ℕ) (other : Table) (other_names : List ℕ) where
   -- What a pair of new and the dual of other says of new and other. Among the first n nodes of the dual, where other has n, the two
   -- descriptions talk with each other: node q .old of other itself faces the node of new. Behind them are the sessions that are handed
   -- over, which are not turned round: node q .old - n of other itself is compared with the node of new, in the pair's turn.
   pub record StandsWell (q : Pair) : Type 0 where
-    pub facing : q.old < other.count → (q.turn ≡ 0) × Facing (node_at new q.new) new-names (node_at other q.old) other-names
-    pub carried : other.count ≤ q.old → (q.old - other.count < other.count) × (mismatch_at new new-names other other-names (as_carried other q) ≡ Nothing)
+    pub facing : q.old < other.count → (q.turn ≡ 0) × Facing (node_at new q.new) new_names (node_at other q.old) other_names
+    pub carried : other.count ≤ q.old → (q.old - other.count < other.count) × (mismatch_at new new_names other other_names (as_carried other q) ≡ Nothing)
 
   -- the run ends at a pair that does not stand well, and no run that goes before it ends at such a pair
   pub record FailsFirst (run : List ℕ) (end : Pair) : Type 0 where
-    pub runs : Run new new-names (dual other) other-names run end
+    pub runs : Run new new_names (dual other) other_names run end
     pub wrong : StandsWell end → ⊥
-    pub earliest : (r : List ℕ) (q : Pair) → Run new new-names (dual other) other-names r q → (StandsWell q → ⊥) → Before r run → ⊥
+    pub earliest : (r : List ℕ) (q : Pair) → Run new new_names (dual other) other_names r q → (StandsWell q → ⊥) → Before r run → ⊥
 
   -- the reason and the detail of an answer, said of new and other
   pub record Explained (f : Found) : Type 0 where
-    pub facing : f.old < other.count → Tells f (facing_wrong (node_at new f.new) new-names (node_at other f.old) other-names)
-    pub carried : other.count ≤ f.old → Tells f (mismatch_at new new-names other other-names (as_carried other (met f)))
+    pub facing : f.old < other.count → Tells f (facing_wrong (node_at new f.new) new_names (node_at other f.old) other_names)
+    pub carried : other.count ≤ f.old → Tells f (mismatch_at new new_names other other_names (as_carried other (met f)))
 
   -- every run ends at a pair that stands well
   abbrev pub AllStandWell : Type 0
-  AllStandWell = (r : List ℕ) (q : Pair) → Run new new-names (dual other) other-names r q → StandsWell q
+  AllStandWell = (r : List ℕ) (q : Pair) → Run new new_names (dual other) other_names r q → StandsWell q
 
   -- what is wrong with a pair of the dual's turned nodes, and with one of its originals
   facing_alike :
       (q : Pair) → q.old < other.count → q.turn ≡ 0
-      → mismatch_at new new-names (dual other) other-names q ≡ facing_wrong (node_at new q.new) new-names (node_at other q.old) other-names
+      → mismatch_at new new_names (dual other) other_names q ≡ facing_wrong (node_at new q.new) new_names (node_at other q.old) other_names
   unfolding mismatch_at
   facing_alike q l t =
-      rw (t, dual-turned other q.old l) (turned_wrong other.count (node_at new q.new) new-names (node_at other q.old) other-names)
+      rw (t, dual-turned other q.old l) (turned_wrong other.count (node_at new q.new) new_names (node_at other q.old) other_names)
 
   pub carried_alike :
       (q : Pair) → other.count ≤ q.old → q.old < (dual other).count
-      → mismatch_at new new-names (dual other) other-names q ≡ mismatch_at new new-names other other-names (as_carried other q)
+      → mismatch_at new new_names (dual other) other_names q ≡ mismatch_at new new_names other other_names (as_carried other q)
   unfolding mismatch_at
   carried_alike q l m = rw (carried_node other q.old l m).1 (go q.turn)
     where
@@ -99,68 +99,68 @@ module _ (new : Table) (new-names : List ℕ) (other : Table) (other-names : Lis
 
       go :
           (u : ℕ)
-          → mismatch_of (left_in u x z) (left_in u new-names other-names) (right_in u x z) (right_in u new-names other-names)
-          ≡ mismatch_of (left_in u x y) (left_in u new-names other-names) (right_in u x y) (right_in u new-names other-names)
-      go zero = carried_fits other.count x new-names y other-names
-      go (suc u) = carried_fits_left other.count x new-names y other-names
+          → mismatch_of (left_in u x z) (left_in u new_names other_names) (right_in u x z) (right_in u new_names other_names)
+          ≡ mismatch_of (left_in u x y) (left_in u new_names other_names) (right_in u x y) (right_in u new_names other_names)
+      go zero = carried_fits other.count x new_names y other_names
+      go (suc u) = carried_fits_left other.count x new_names y other_names
 
-  module _ (new_formed : WellFormed new new-names) (dual-well : WellFormed (dual other) other-names) (r : List ℕ) (q : Pair) (L : Run new new-names (dual other) other-names r q) where
+  module _ (new_formed : WellFormed new new_names) (dual_well : WellFormed (dual other) other_names) (r : List ℕ) (q : Pair) (L : Run new new_names (dual other) other_names r q) where
     reached_within : Within new (dual other) q
-    reached_within = leads_within new_formed dual-well r (starts new (dual other)) q (starts_within new_formed dual-well) L
+    reached_within = leads_within new_formed dual_well r (starts new (dual other)) q (starts_within new_formed dual_well) L
 
-    fits_stands : mismatch_at new new-names (dual other) other-names q ≡ Nothing → StandsWell q
+    fits_stands : mismatch_at new new_names (dual other) other_names q ≡ Nothing → StandsWell q
     unfolding mismatch_at
     fits_stands e =
         record {
           facing =
               λ l.
-              let t = reached_turn new new-names other other-names new_formed dual-well r q L l in
-              let f = facing_fits other.count (node_at new q.new) new-names (node_at other q.old) other-names in
+              let t = reached_turn new new_names other other_names new_formed dual_well r q L l in
+              let f = facing_fits other.count (node_at new q.new) new_names (node_at other q.old) other_names in
               (t, f.0 (rw (t, dual-turned other q.old l) at e));
           carried = λ l. ((carried_node other q.old l reached_within.old_below).0, sym (carried_alike q l reached_within.old_below) ∙ e);
         }
 
-    stands_fits : StandsWell q → mismatch_at new new-names (dual other) other-names q ≡ Nothing
+    stands_fits : StandsWell q → mismatch_at new new_names (dual other) other_names q ≡ Nothing
     unfolding mismatch_at
     stands_fits S = go (dec_lt q.old other.count)
       where
-        go : Dec (q.old < other.count) → mismatch_at new new-names (dual other) other-names q ≡ Nothing
+        go : Dec (q.old < other.count) → mismatch_at new new_names (dual other) other_names q ≡ Nothing
         go (yes l) =
             let (t, F) = S.facing l in
             rw (t, dual-turned other q.old l)
-            ((facing_fits other.count (node_at new q.new) new-names (node_at other q.old) other-names).1 F)
+            ((facing_fits other.count (node_at new q.new) new_names (node_at other q.old) other_names).1 F)
         go (no l) =
             let m : other.count ≤ q.old = omega arith in carried_alike q m reached_within.old_below ∙ (S.carried m).1
 
     -- a pair that a run reaches stands well exactly if the verdict's search finds nothing wrong with it
-    pub stands_exactly : (mismatch_at new new-names (dual other) other-names q ≡ Nothing) ↔ StandsWell q
+    pub stands_exactly : (mismatch_at new new_names (dual other) other_names q ≡ Nothing) ↔ StandsWell q
     stands_exactly = (fits_stands, stands_fits)
 
-module _ {new : Table} {new-names : List ℕ} {other : Table} {other-names : List ℕ} {before after : Areas} where
+module _ {new : Table} {new_names : List ℕ} {other : Table} {other_names : List ℕ} {before after : Areas} where
   -- the second call was asked of the dual
   asked :
-      {m : Made} {v : Verdict} → AsksCompatible new new-names other other-names before after m (some v)
-      → Replaces new new-names (dual other) other-names before after v
+      {m : Made} {v : Verdict} → AsksCompatible new new_names other other_names before after m (some v)
+      → Replaces new new_names (dual other) other_names before after v
   asked (then_verdict {t} {v} e r) =
-      subst (λ (d : Table). Replaces new new-names d other-names before after v) (made-dual other other-names t e) r
+      subst (λ (d : Table). Replaces new new_names d other_names before after v) (made-dual other other_names t e) r
 
   -- after a yes every pair that a run reaches stands well
   pub compatible_yes :
-      {m : Made} {c : ℕ} → AsksCompatible new new-names other other-names before after m (some (the.Yes c)) → (r : List ℕ) (q : Pair)
-      → Run new new-names (dual other) other-names r q → StandsWell new new-names other other-names q
+      {m : Made} {c : ℕ} → AsksCompatible new new_names other other_names before after m (some (the.Yes c)) → (r : List ℕ) (q : Pair)
+      → Run new new_names (dual other) other_names r q → StandsWell new new_names other other_names q
   compatible_yes A r q L =
       let (F, Y) = yes_means (asked A) in
-      (stands_exactly new new-names other other-names (formed F.new_formed) (formed F.old_formed) r q L).0
+      (stands_exactly new new_names other other_names (formed F.new_formed) (formed F.old_formed) r q L).0
       (closed_no_mismatch Y.smallest.closed r q L)
 
   -- after a no the steps that the path holds lead to the first that does not
   pub compatible_no :
-      {m : Made} {f : Found} → AsksCompatible new new-names other other-names before after m (some (the.No f))
-      → FailsFirst new new-names other other-names (take f.steps after.path) (met f)
+      {m : Made} {f : Found} → AsksCompatible new new_names other other_names before after m (some (the.No f))
+      → FailsFirst new new_names other other_names (take f.steps after.path) (met f)
   compatible_no {f = f} A =
       let (F, X) = no_means (asked A) in
-      let stands = stands_exactly new new-names other other-names (formed F.new_formed) (formed F.old_formed) in
-      let first : FailsFirst new new-names other other-names X.run X.end =
+      let stands = stands_exactly new new_names other other_names (formed F.new_formed) (formed F.old_formed) in
+      let first : FailsFirst new new_names other other_names X.run X.end =
       record {
         runs = X.runs;
         wrong = λ S. X.wrong ((stands X.run X.end X.runs).1 S);
@@ -170,61 +170,61 @@ module _ {new : Table} {new-names : List ℕ} {other : Table} {other-names : Lis
 
   -- and reason and detail are told of new and other
   pub compatible_reason :
-      {m : Made} {f : Found} → AsksCompatible new new-names other other-names before after m (some (the.No f))
-      → Explained new new-names other other-names f
+      {m : Made} {f : Found} → AsksCompatible new new_names other other_names before after m (some (the.No f))
+      → Explained new new_names other other_names f
   compatible_reason {f = f} A =
       let (F, X) = no_means (asked A) in
       let L = (compatible_no A).runs in
       let a = formed F.new_formed in
       let b = formed F.old_formed in
       let w = leads_within a b (take f.steps after.path) (starts new (dual other)) (met f) (starts_within a b) L in
-      let tells : Tells f (mismatch_at new new-names (dual other) other-names (met f)) = rw X.returned (refl, refl) in
+      let tells : Tells f (mismatch_at new new_names (dual other) other_names (met f)) = rw X.returned (refl, refl) in
       record {
         facing =
             λ l.
-            let t = reached_turn new new-names other other-names a b (take f.steps after.path) (met f) L l in
-            rw (← facing_alike new new-names other other-names (met f) l t) tells;
-        carried = λ l. rw (← carried_alike new new-names other other-names (met f) l w.old_below) tells;
+            let t = reached_turn new new_names other other_names a b (take f.steps after.path) (met f) L l in
+            rw (← facing_alike new new_names other other_names (met f) l t) tells;
+        carried = λ l. rw (← carried_alike new new_names other other_names (met f) l w.old_below) tells;
       }
 
   -- where no refusal applies, yes is the answer exactly if every run stands well
   pub compatible_exactly :
-      {m : Made} {v : Verdict} → NoRefusal new new-names (dual other) other-names before
-      → AsksCompatible new new-names other other-names before after m (some v)
-      → ((c : ℕ) × (v ≡ the.Yes c)) ↔ AllStandWell new new-names other other-names
+      {m : Made} {v : Verdict} → NoRefusal new new_names (dual other) other_names before
+      → AsksCompatible new new_names other other_names before after m (some v)
+      → ((c : ℕ) × (v ≡ the.Yes c)) ↔ AllStandWell new new_names other other_names
   compatible_exactly {m} {v} F A = (λ (c, e). compatible_yes (rw e at A), go v A)
     where
       go :
-          (v : Verdict) → AsksCompatible new new-names other other-names before after m (some v) → AllStandWell new new-names other other-names
+          (v : Verdict) → AsksCompatible new new_names other other_names before after m (some v) → AllStandWell new new_names other other_names
           → (c : ℕ) × (v ≡ the.Yes c)
       go (the.Yes c) B all = (c, refl)
       go (the.No f) B all = let X = compatible_no B in absurd (X.wrong (all (take f.steps after.path) (met f) X.runs))
       go (the.Refused n p) B all = absurd (never_refused F (asked B))
 
 -- And so it is without any call: new is compatible with other exactly if every run stands well.
-module _ (new : Table) (new-names : List ℕ) (other : Table) (other-names : List ℕ) where
+module _ (new : Table) (new_names : List ℕ) (other : Table) (other_names : List ℕ) where
   pub compatible_means :
-      well_formed new new-names ≡ true → well_formed other other-names ≡ true → (dual other).count ≤ table_nodes_most
-      → Compatible new new-names other other-names ↔ AllStandWell new new-names other other-names
+      well_formed new new_names ≡ true → well_formed other other_names ≡ true → (dual other).count ≤ table_nodes_most
+      → Compatible new new_names other other_names ↔ AllStandWell new new_names other other_names
   compatible_means a b few = (
     λ m r q L. (stands r q L).0 (closed_no_mismatch m.closed r q L),
-    λ all. go all _ _ (verdict_replaces new new-names (dual other) other-names lent),
+    λ all. go all _ _ (verdict_replaces new new_names (dual other) other_names lent),
   )
     where
-      c : well_formed (dual other) other-names ≡ true
-      c = dual_formed other other-names b few
+      c : well_formed (dual other) other_names ≡ true
+      c = dual_formed other other_names b few
 
       stands :
-          (r : List ℕ) (q : Pair) → Run new new-names (dual other) other-names r q
-          → (mismatch_at new new-names (dual other) other-names q ≡ Nothing) ↔ StandsWell new new-names other other-names q
-      stands = stands_exactly new new-names other other-names (formed a) (formed c)
+          (r : List ℕ) (q : Pair) → Run new new_names (dual other) other_names r q
+          → (mismatch_at new new_names (dual other) other_names q ≡ Nothing) ↔ StandsWell new new_names other other_names q
+      stands = stands_exactly new new_names other other_names (formed a) (formed c)
 
       lent : Areas
       lent = areas_for new (dual other)
 
       go :
-          AllStandWell new new-names other other-names → (v : Verdict) (after : Areas) → Replaces new new-names (dual other) other-names lent after v
-          → Compatible new new-names other other-names
+          AllStandWell new new_names other other_names → (v : Verdict) (after : Areas) → Replaces new new_names (dual other) other_names lent after v
+          → Compatible new new_names other other_names
       go all (the.Yes n) after R = yes-may_replace R
       go all (the.No f) after R =
           let X = (no_means R).1 in absurd (X.wrong ((stands X.run X.end X.runs).1 (all X.run X.end X.runs)))

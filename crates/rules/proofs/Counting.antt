@@ -10,7 +10,7 @@ use Rattle.rules.specs.Basics.{first}
 use Rattle.rules.specs.Tokens.{Token, Symbol, word, reserved_word, symbol, symbols, tokens}
 use Rattle.rules.specs.Notation.{Way, into, out, Ty, ended, name, message, choice, Items, no_items, sort, session, Labels, last_label, label, Text, last_definition, definition, sign, end_position, sort_position, message_sign, choice_sign, opening, closing, write_type, parted, write_items, write_labels, write_text, Writes}
 use Rattle.rules.specs.Numbering.{behind, behind_items, behind_labels, behind_text}
-use Rattle.rules.specs.Refusals.{Begins, a_definition, a-label, an_item, nothing-new, Seen, one_of, begins_behind, bracket_closed, names_after, entries_after, brackets_after, nodes_after, seen_after, seen_from, seen}
+use Rattle.rules.specs.Refusals.{Begins, a_definition, a_label, an_item, nothing_new, Seen, one_of, begins_behind, bracket_closed, names_after, entries_after, brackets_after, nodes_after, seen_after, seen_from, seen}
 use Rattle.rules.proofs.NamesInOrder.{symbol_word}
 use Rattle.rules.proofs.Reached.{seen-append}
 use Rattle.rules.proofs.OneToken.{counted}
@@ -31,7 +31,7 @@ module _ (z : Seen) (t : Token) where
   brackets_with = entries_after z.next t.spelled z.brackets
 
   abbrev pub settled : Seen
-  settled = counted nothing-new z.nodes names_with brackets_with
+  settled = counted nothing_new z.nodes names_with brackets_with
 
   -- a token counts alike where what begins at it has been entered before
   pub settles : seen_after z t ≡ seen_after settled t
@@ -49,16 +49,16 @@ module _ (z : Seen) (t : Token) where
   after_sort Boolean e = cc
   after_sort Void e = cc
 
-  pub after_end : symbol t ≡ reserved_word end_position → seen_after z t ≡ counted nothing-new (suc z.nodes) names_with brackets_with
+  pub after_end : symbol t ≡ reserved_word end_position → seen_after z t ≡ counted nothing_new (suc z.nodes) names_with brackets_with
   unfolding one_token
   after_end e = cc
 
-  pub after_message : (d : Way) → symbol t ≡ message_sign d → seen_after z t ≡ counted nothing-new (suc z.nodes) names_with brackets_with
+  pub after_message : (d : Way) → symbol t ≡ message_sign d → seen_after z t ≡ counted nothing_new (suc z.nodes) names_with brackets_with
   unfolding one_token
   after_message into e = cc
   after_message out e = cc
 
-  pub after_choice : (d : Way) → symbol t ≡ choice_sign d → seen_after z t ≡ counted nothing-new (suc z.nodes) names_with brackets_with
+  pub after_choice : (d : Way) → symbol t ≡ choice_sign d → seen_after z t ≡ counted nothing_new (suc z.nodes) names_with brackets_with
   unfolding one_token
   after_choice into e = cc
   after_choice out e = cc
@@ -68,16 +68,16 @@ module _ (z : Seen) (t : Token) where
   after_opening into e = cc
   after_opening out e = cc
 
-  pub after_closing : (d : Way) → symbol t ≡ closing d → seen_after z t ≡ counted nothing-new z.nodes names_with (bracket_closed brackets_with)
+  pub after_closing : (d : Way) → symbol t ≡ closing d → seen_after z t ≡ counted nothing_new z.nodes names_with (bracket_closed brackets_with)
   unfolding one_token
   after_closing into e = cc
   after_closing out e = cc
 
-  pub after_open_brace : symbol t ≡ sign "{" → seen_after z t ≡ counted a-label z.nodes names_with ([] ∷ brackets_with)
+  pub after_open_brace : symbol t ≡ sign "{" → seen_after z t ≡ counted a_label z.nodes names_with ([] ∷ brackets_with)
   unfolding one_token
   after_open_brace e = cc
 
-  pub after_close_brace : symbol t ≡ sign "}" → seen_after z t ≡ counted nothing-new z.nodes names_with (bracket_closed brackets_with)
+  pub after_close_brace : symbol t ≡ sign "}" → seen_after z t ≡ counted nothing_new z.nodes names_with (bracket_closed brackets_with)
   unfolding one_token
   after_close_brace e = cc
 
@@ -97,7 +97,7 @@ module _ (z : Seen) (t : Token) where
   unfolding one_token
   after_comma e = cc
 
-  pub after_bar : symbol t ≡ sign "|" → seen_after z t ≡ counted a-label z.nodes names_with brackets_with
+  pub after_bar : symbol t ≡ sign "|" → seen_after z t ≡ counted a_label z.nodes names_with brackets_with
   unfolding one_token
   after_bar e = cc
 
@@ -109,7 +109,7 @@ module _ (z : Seen) (t : Token) where
 abbrev pub after_type : Seen → Token → Ty → Seen
 after_type z t x =
     record {
-      next = nothing-new;
+      next = nothing_new;
       nodes = behind x z.nodes;
       names = z.names;
       brackets = entries_after z.next t.spelled z.brackets;
@@ -177,7 +177,7 @@ takes_type x j (t ∷ ts) e f = takes_first t (f t ts e)
 module _ (ns : List (List ℕ)) where
   -- where nothing new begins, n nodes are counted, and these brackets are open
   abbrev pub plain : ℕ → List (List (List ℕ)) → Seen
-  plain n bs = counted nothing-new n ns bs
+  plain n bs = counted nothing_new n ns bs
 
   -- behind an item
   pub rest_takes :
@@ -196,10 +196,10 @@ module _ (ns : List (List ℕ)) where
       → ((t : Token) (rest : List Token) (cs : List (List (List ℕ))) → symbols (t ∷ rest) ≡ write_type x j
       → Takes (seen_after (plain n cs) t) rest (plain (behind x n) cs) j)
       → ((fs : List (List ℕ)) (rest : List Token) → symbols rest ≡ j → Takes (plain (behind x n) (fs ∷ bs)) rest z k)
-      → Takes (counted a-label n ns (es ∷ bs)) ts z k
+      → Takes (counted a_label n ns (es ∷ bs)) ts z k
   label_takes w x ts j n es bs e f g =
       takes_one ts e (λ t ts₁ p e₁.
-      rw (after_word (counted a-label n ns (es ∷ bs)) t w p)
+      rw (after_word (counted a_label n ns (es ∷ bs)) t w p)
       (takes_sign ts₁ e₁ (λ o q. after_colon (plain n ((t.spelled ∷ es) ∷ bs)) o q) (λ ts₂ e₂.
       takes_then (takes_type x j ts₂ e₂ (λ u rest q. f u rest ((t.spelled ∷ es) ∷ bs) q)) (λ ts₃ e₃. g (t.spelled ∷ es) ts₃ e₃))))
 
@@ -237,7 +237,7 @@ module _ (ns : List (List ℕ)) where
     -- the labels of a choice from one on, and what closes it
     pub labels_take :
         (ls : Labels) (ts : List Token) (k : List Symbol) (n : ℕ) (es : List (List ℕ)) (bs : List (List (List ℕ)))
-        → symbols ts ≡ write_labels ls k → Takes (counted a-label n ns (es ∷ bs)) ts (plain (behind_labels ls n) bs) k
+        → symbols ts ≡ write_labels ls k → Takes (counted a_label n ns (es ∷ bs)) ts (plain (behind_labels ls n) bs) k
     labels_take (last_label w x) ts k n es bs e =
         label_takes w x ts (sign "}" ∷ k) n es bs e (λ t rest cs q. type_takes x t rest (sign "}" ∷ k) n cs q) (λ fs ts₁ e₁.
         takes_sign ts₁ e₁ (λ o q. after_close_brace (plain (behind x n) (fs ∷ bs)) o q) (λ rest q. takes_none q))
@@ -246,13 +246,13 @@ module _ (ns : List (List ℕ)) where
         label_takes w x ts j n es bs e (λ t rest cs q. type_takes x t rest j n cs q) (λ fs ts₁ e₁.
         takes_sign ts₁ e₁ (λ o q. after_bar (plain (behind x n) (fs ∷ bs)) o q) (λ ts₂ e₂. labels_take ls ts₂ k (behind x n) fs bs e₂))
 
-names_stay : (b : Begins) (w : List ℕ) (ns : List (List ℕ)) → (b ≡ an_item) ⊎ (b ≡ nothing-new) → names_after b w ns ≡ ns
+names_stay : (b : Begins) (w : List ℕ) (ns : List (List ℕ)) → (b ≡ an_item) ⊎ (b ≡ nothing_new) → names_after b w ns ≡ ns
 names_stay b w ns (inl e) = rw e
 names_stay b w ns (inr e) = rw e
 
 -- a type, in a list of items or not
 pub type_counted :
-    (z : Seen) (x : Ty) (t : Token) (ts : List Token) (k : List Symbol) → (z.next ≡ an_item) ⊎ (z.next ≡ nothing-new)
+    (z : Seen) (x : Ty) (t : Token) (ts : List Token) (k : List Symbol) → (z.next ≡ an_item) ⊎ (z.next ≡ nothing_new)
     → symbols (t ∷ ts) ≡ write_type x k → Takes z (t ∷ ts) (after_type z t x) k
 type_counted z x t ts k i e =
     let q = ap (λ (ns : List (List ℕ)). seen_after (plain ns z.nodes (brackets_with z t)) t) (names_stay z.next t.spelled z.names i) in
@@ -271,7 +271,7 @@ same_front (x ∷ a) b (y ∷ c) d e l = ap₂ {C = List Token} ◌∷◌ (head-
 
 -- the tokens that a type is written with
 pub taken_counted :
-    (z : Seen) (x : Ty) (t : Token) (ts rest : List Token) → (z.next ≡ an_item) ⊎ (z.next ≡ nothing-new)
+    (z : Seen) (x : Ty) (t : Token) (ts rest : List Token) → (z.next ≡ an_item) ⊎ (z.next ≡ nothing_new)
     → symbols (t ∷ (ts ++ rest)) ≡ write_type x (symbols rest) → seen_from z (t ∷ ts) ≡ after_type z t x
 taken_counted z x t ts rest i e =
     let T = type_counted z x t (ts ++ rest) (symbols rest) i e in

@@ -121,10 +121,10 @@ dual_unfolds t names f =
     subst (λ (j : ℕ). DualByUnfolding t names (dual t) names t.start j) (sym (dual_start t)) (node_dual w t.start w.begins)
 
 -- An equation read from its other side, where f undoes itself.
-module _ {names other-names : List ℕ} {f : Kind → Kind} {I G J H : ℕ → ℕ → Type 0} {x y : Node} where
+module _ {names other_names : List ℕ} {f : Kind → Kind} {I G J H : ℕ → ℕ → Type 0} {x y : Node} where
   beside_back :
       ((k : Kind) → f (f k) ≡ k) → ((k : Kind) → is_message (f k) ≡ is_message k) → ((k l : ℕ) → I k l → J l k) → ((k l : ℕ) → G k l → H l k)
-      → Beside names other-names f I G x y → Beside other-names names f J H y x
+      → Beside names other_names f I G x y → Beside other_names names f J H y x
   beside_back twice messages items goes B =
       record {
         kind = sym (ap f B.kind ∙ twice x.kind);
@@ -138,10 +138,12 @@ module _ {names other-names : List ℕ} {f : Kind → Kind} {I G J H : ℕ → �
     where
       item : (a b : Item) → ItemBeside I a b → ItemBeside J b a
       item (OfSort a) (OfSort b) h = sym h
+      item (OfSort a) (Session l) h = elim h [ ]
+      item (Session k) (OfSort b) h = elim h [ ]
       item (Session k) (Session l) h = items k l h
 
-module _ {t : Table} {names : List ℕ} {u : Table} {other-names : List ℕ} where
-  same_symmetric : (i j : ℕ) → SameByUnfolding t names u other-names i j → SameByUnfolding u other-names t names j i
+module _ {t : Table} {names : List ℕ} {u : Table} {other_names : List ℕ} where
+  same_symmetric : (i j : ℕ) → SameByUnfolding t names u other_names i j → SameByUnfolding u other_names t names j i
   same_symmetric i j S =
       record {
         set = λ i j. S.set j i;
@@ -153,7 +155,7 @@ module _ {t : Table} {names : List ℕ} {u : Table} {other-names : List ℕ} whe
         holds = S.holds;
       }
 
-  pub dual_symmetric : (i j : ℕ) → DualByUnfolding t names u other-names i j → DualByUnfolding u other-names t names j i
+  pub dual_symmetric : (i j : ℕ) → DualByUnfolding t names u other_names i j → DualByUnfolding u other_names t names j i
   dual_symmetric i j D =
       record {
         set = λ i j. D.set j i;

@@ -142,13 +142,13 @@ carried_node t j l m = go (hands_over t) refl
         (h, ap (node_at (dual t)) p ∙ dual-original t e (j - t.count) h)
     go false e = absurd (omega (arith, dual_size t e))
 
-module _ (new : Table) (new-names : List ℕ) (other : Table) (other-names : List ℕ) (new_formed : WellFormed new new-names) (dual_formed : WellFormed (dual other) other-names) where
+module _ (new : Table) (new_names : List ℕ) (other : Table) (other_names : List ℕ) (new_formed : WellFormed new new_names) (dual_formed : WellFormed (dual other) other_names) where
   -- what every pair that a run reaches keeps
   abbrev Kept : Pair → Type 0
   Kept p = Within new (dual other) p × (p.old < other.count → p.turn ≡ 0)
 
   step_turn :
-      (p : Pair) (s : ℕ) (q : Pair) → Kept p → Step new new-names (dual other) other-names p s q → q.old < other.count → q.turn ≡ 0
+      (p : Pair) (s : ℕ) (q : Pair) → Kept p → Step new new_names (dual other) other_names p s q → q.old < other.count → q.turn ≡ 0
   unfolding mismatch_at step_at
   step_turn p s q (w, k) S l = go (dec_lt p.old other.count)
     where
@@ -160,21 +160,21 @@ module _ (new : Table) (new-names : List ℕ) (other : Table) (other-names : Lis
           let y = node_at other p.old in
           let z = turned_node other.count y in
           let d = dual-turned other p.old h in
-          turned_onward other.count x y q (step_of x new-names z other-names s)
-          (node_follows x new-names z other-names s (rw (k h, d) at S.fits)) (rw (k h, d) at S.leads) l
+          turned_onward other.count x y q (step_of x new_names z other_names s)
+          (node_follows x new_names z other_names s (rw (k h, d) at S.fits)) (rw (k h, d) at S.leads) l
       go (no h) =
           let c = carried_node other p.old (omega arith) w.old_below in
           let y = node_at other (p.old - other.count) in
           let z = original_node other.count y in
           let u = p.turn in
-          let xs = left_in u new-names other-names in
-          let ys = right_in u new-names other-names in
+          let xs = left_in u new_names other_names in
+          let ys = right_in u new_names other_names in
           let f = node_follows (left_in u x z) xs (right_in u x z) ys s (rw c.1 at S.fits) in
           let o = step_of (left_in u x z) xs (right_in u x z) ys s in
           absurd (omega (arith, carried_onward other.count x y q u o f (rw c.1 at S.leads)))
 
   -- a run that is at a turned node is in turn 0
-  pub reached_turn : (r : List ℕ) (q : Pair) → Run new new-names (dual other) other-names r q → q.old < other.count → q.turn ≡ 0
+  pub reached_turn : (r : List ℕ) (q : Pair) → Run new new_names (dual other) other_names r q → q.old < other.count → q.turn ≡ 0
   reached_turn r q L =
-      (run_grows new new-names (dual other) other-names (λ r q. Kept q) (starts_within new_formed dual_formed, λ l. refl)
+      (run_grows new new_names (dual other) other_names (λ r q. Kept q) (starts_within new_formed dual_formed, λ l. refl)
       (λ r p s q k S. (step_within new_formed dual_formed k.0 S, step_turn p s q k S)) r q L).1

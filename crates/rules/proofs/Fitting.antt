@@ -15,7 +15,7 @@ use Rattle.rules.specs.Tokens.{Token, Symbol, word, symbol, symbols, tokens}
 use Rattle.rules.specs.Notation.{Way, Ty, ended, name, message, choice, Items, no_items, sort, session, Labels, last_label, label, Text, last_definition, definition, sign, write_type, parted, write_items, write_labels, write_text, Writes}
 use Rattle.rules.specs.Numbers.{items_most, labels_most, text_nodes_most}
 use Rattle.rules.specs.Numbering.{behind, behind_items, behind_text}
-use Rattle.rules.specs.Refusals.{a_definition, a-label, an_item, Seen, unseen, innermost, nodes_after, seen_after, seen_from, among, begins_node, word_too_long, one_too_many, label_twice, TokenFault, long_word, node_more, label_more, item_more, same_label}
+use Rattle.rules.specs.Refusals.{a_definition, a_label, an_item, Seen, unseen, innermost, nodes_after, seen_after, seen_from, among, begins_node, word_too_long, one_too_many, label_twice, TokenFault, long_word, node_more, label_more, item_more, same_label}
 use Rattle.rules.specs.computed.Reading.{token_fault}
 use Rattle.rules.proofs.OneToken.{counted}
 use Rattle.rules.proofs.Counting.{plain, settles, after_word, after_sort, after_message, after_choice, after_opening, after_open_brace, after_semicolon, after_colon, after_equals, after_comma, after_bar, after_dot, Takes, type_some, type_takes, items_take, text_counted}
@@ -52,11 +52,11 @@ module _ (z : Seen) (t : Token) (e : token_fault z t ≡ none) where
   few_items b =
       let h : items_most ≤ length (innermost z.brackets) → ⊥ = λ l. not_refused one_too_many (item_more b l) in omega arith
 
-  few_labels : z.next ≡ a-label → length (innermost z.brackets) < labels_most
+  few_labels : z.next ≡ a_label → length (innermost z.brackets) < labels_most
   few_labels b =
       let h : labels_most ≤ length (innermost z.brackets) → ⊥ = λ l. not_refused one_too_many (label_more b l) in omega arith
 
-  new_label : z.next ≡ a-label → among (innermost z.brackets) t.spelled ≡ false
+  new_label : z.next ≡ a_label → among (innermost z.brackets) t.spelled ≡ false
   new_label b = Bool-eq-false (λ f. not_refused label_twice (same_label b f))
 
 -- What fits the limits.
@@ -123,7 +123,7 @@ module _ (s : List ℕ) where
         g T.rest T.written (rw T.counted at (sound_rest z T.taken T.rest (rw T.split at S)))
 
   label_new :
-      (z : Seen) (t w : Token) → token_fault z t ≡ none → z.next ≡ a-label → symbol t ≡ word w
+      (z : Seen) (t w : Token) → token_fault z t ≡ none → z.next ≡ a_label → symbol t ≡ word w
       → ((v : Token) → symbol t ≡ word v → Named s v) → NewLabel s (innermost z.brackets) w
   label_new z t w e b p m =
       record { few = few_labels z t e b; new = rw (← symbol_word t w p) (new_label z t e b); named = m w p }
@@ -142,15 +142,15 @@ module _ (s : List ℕ) where
     -- past a label and its colon, to the first token of its type
     sound_label :
         {G : Type 0} (w : Token) (x : Ty) (ts : List Token) (j : List Symbol) (n : ℕ) (es : List (List ℕ)) (bs : List (List (List ℕ)))
-        → symbols ts ≡ word w ∷ sign ":" ∷ write_type x j → Sound (counted a-label n ns (es ∷ bs)) ts
+        → symbols ts ≡ word w ∷ sign ":" ∷ write_type x j → Sound (counted a_label n ns (es ∷ bs)) ts
         → (NewLabel s es w → (t : Token) (rest : List Token) → symbols (t ∷ rest) ≡ write_type x j
         → Sound (seen_after (plain ns n ((w.spelled ∷ es) ∷ bs)) t) rest → G)
         → G
     sound_label w x ts j n es bs e S g =
         sound_one ts e S (λ t ts₁ p e₁ f m R.
-        let S₁ = rw (after_word (counted a-label n ns (es ∷ bs)) t w p, symbol_word t w p) at R in
+        let S₁ = rw (after_word (counted a_label n ns (es ∷ bs)) t w p, symbol_word t w p) at R in
         sound_sign ts₁ e₁ S₁ (λ o q. after_colon (plain ns n ((w.spelled ∷ es) ∷ bs)) o q) (λ ts₂ e₂ S₂.
-        sound_type x j ts₂ e₂ S₂ (λ u rest q _ S₃. g (label_new (counted a-label n ns (es ∷ bs)) t w f refl p m) u rest q S₃)))
+        sound_type x j ts₂ e₂ S₂ (λ u rest q _ S₃. g (label_new (counted a_label n ns (es ∷ bs)) t w f refl p m) u rest q S₃)))
 
     mutual
       type_fits :
@@ -192,7 +192,7 @@ module _ (s : List ℕ) where
 
       labels_fit :
           (ls : Labels) (ts : List Token) (k : List Symbol) (n : ℕ) (es : List (List ℕ)) (bs : List (List (List ℕ)))
-          → symbols ts ≡ write_labels ls k → Sound (counted a-label n ns (es ∷ bs)) ts → FitLabels ls es
+          → symbols ts ≡ write_labels ls k → Sound (counted a_label n ns (es ∷ bs)) ts → FitLabels ls es
       labels_fit (last_label w x) ts k n es bs e S =
           sound_label w x ts (sign "}" ∷ k) n es bs e S (λ new t rest q R.
           (new, type_fits x t rest (sign "}" ∷ k) n ((w.spelled ∷ es) ∷ bs) q R))

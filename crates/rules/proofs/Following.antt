@@ -21,17 +21,17 @@ use Rattle.table.specs.declared.Table.{Table}
 use Rattle.table.specs.declared.answers.Mismatch.TheVariants.{Nothing}
 
 -- new' and old' follow new and old, with the same name bytes
-pub record Follows (new new' : Table) (new-names : List ℕ) (old old' : Table) (old-names : List ℕ) : Type 0 where
+pub record Follows (new new' : Table) (new_names : List ℕ) (old old' : Table) (old_names : List ℕ) : Type 0 where
   pub new_count : new.count ≡ new'.count
   pub old_count : old.count ≡ old'.count
   pub new_start : new.start ≡ new'.start
   pub old_start : old.start ≡ old'.start
   pub fits :
-      (p : Pair) → Within new old p → mismatch_at new new-names old old-names p ≡ Nothing
-      → mismatch_at new' new-names old' old-names p ≡ Nothing
+      (p : Pair) → Within new old p → mismatch_at new new_names old old_names p ≡ Nothing
+      → mismatch_at new' new_names old' old_names p ≡ Nothing
   pub steps :
-      (p q : Pair) (s : ℕ) → Within new old p → Step new' new-names old' old-names p s q
-      → (r : ℕ) × Step new new-names old old-names p r q
+      (p q : Pair) (s : ℕ) → Within new old p → Step new' new_names old' old_names p s q
+      → (r : ℕ) × Step new new_names old old_names p r q
 
 -- what holds of the two new nodes and of the two old ones holds of the left ones and of the right ones
 module _ (R : Node → Node → Type 0) {x x' y y' : Node} (S : R x x') (T : R y y') where
@@ -66,8 +66,8 @@ module _ (new old : Table) (set : Pair → Bool) (p : Pair) where
   cut_both : set p ≡ true → Within new old p → cut new old set p ≡ true
   cut_both e w = rw (e, lt-ltb _ _ w.turn_below, lt-ltb _ _ w.new_below, lt-ltb _ _ w.old_below) refl
 
-follows_itself : (new : Table) (new-names : List ℕ) (old : Table) (old-names : List ℕ) → Follows new new new-names old old old-names
-follows_itself new new-names old old-names =
+follows_itself : (new : Table) (new_names : List ℕ) (old : Table) (old_names : List ℕ) → Follows new new new_names old old old_names
+follows_itself new new_names old old_names =
     record {
       new_count = refl;
       old_count = refl;
@@ -77,12 +77,12 @@ follows_itself new new-names old old-names =
       steps = λ p q s w S. (s, S);
     }
 
-module _ {new new' : Table} {new-names : List ℕ} {old old' : Table} {old-names : List ℕ} (F : Follows new new' new-names old old' old-names) where
+module _ {new new' : Table} {new_names : List ℕ} {old old' : Table} {old_names : List ℕ} (F : Follows new new' new_names old old' old_names) where
   pub starts_same : starts new old ≡ starts new' old'
   starts_same = λ i. record { turn = 0; new = F.new_start i; old = F.old_start i }
 
-  module _ (new_formed : WellFormed new new-names) (old_formed : WellFormed old old-names) where
-    closed_follows : {set : Pair → Bool} → Closed new new-names old old-names set → Closed new' new-names old' old-names (cut new old set)
+  module _ (new_formed : WellFormed new new_names) (old_formed : WellFormed old old_names) where
+    closed_follows : {set : Pair → Bool} → Closed new new_names old old_names set → Closed new' new_names old' old_names (cut new old set)
     closed_follows {set} C =
         record {
           holds_starts =
@@ -96,13 +96,13 @@ module _ {new new' : Table} {new-names : List ℕ} {old old' : Table} {old-names
               cut_both new old set q (C.all_steps p q r (cut_set new old set p e) R) (step_within new_formed old_formed w R);
         }
 
-    pub may_replace_follows : MayReplace new new-names old old-names → MayReplace new' new-names old' old-names
+    pub may_replace_follows : MayReplace new new_names old old_names → MayReplace new' new_names old' old_names
     may_replace_follows m = record { set = cut new old m.set; closed = closed_follows m.closed }
 
   -- the lent areas are long enough for the one as for the other
   pub no_refusal_follows :
-      {before : Areas} → well_formed new' new-names ≡ true → well_formed old' old-names ≡ true
-      → NoRefusal new new-names old old-names before → NoRefusal new' new-names old' old-names before
+      {before : Areas} → well_formed new' new_names ≡ true → well_formed old' old_names ≡ true
+      → NoRefusal new new_names old old_names before → NoRefusal new' new_names old' old_names before
   no_refusal_follows a b N =
       record {
         new_formed = a;
@@ -113,9 +113,9 @@ module _ {new new' : Table} {new-names : List ℕ} {old old' : Table} {old-names
       }
 
 -- Tables that follow each other.
-module _ {new new' : Table} {new-names : List ℕ} {old old' : Table} {old-names : List ℕ} (F : Follows new new' new-names old old' old-names) (G : Follows new' new new-names old' old old-names) where
-  module _ (new_formed : WellFormed new new-names) (old_formed : WellFormed old old-names) (new-formed' : WellFormed new' new-names) (old-formed' : WellFormed old' old-names) where
-    smallest_follows : {set : Pair → Bool} → Smallest new new-names old old-names set → Smallest new' new-names old' old-names set
+module _ {new new' : Table} {new_names : List ℕ} {old old' : Table} {old_names : List ℕ} (F : Follows new new' new_names old old' old_names) (G : Follows new' new new_names old' old old_names) where
+  module _ (new_formed : WellFormed new new_names) (old_formed : WellFormed old old_names) (new_formed' : WellFormed new' new_names) (old_formed' : WellFormed old' old_names) where
+    smallest_follows : {set : Pair → Bool} → Smallest new new_names old old_names set → Smallest new' new_names old' old_names set
     smallest_follows {set} S =
         record {
           closed =
@@ -126,18 +126,18 @@ module _ {new new' : Table} {new-names : List ℕ} {old old' : Table} {old-names
               };
           inside =
               λ other O p e.
-              cut_set new' old' other p (S.inside (cut new' old' other) (closed_follows G new-formed' old-formed' O) p e);
+              cut_set new' old' other p (S.inside (cut new' old' other) (closed_follows G new_formed' old_formed' O) p e);
         }
       where
         -- a set cut down is closed too, so that the smallest one is within
         within : (p : Pair) → set p ≡ true → Within new old p
         within p e =
             cut_within new old set p
-            (S.inside (cut new old set) (closed_follows (follows_itself new new-names old old-names) new_formed old_formed S.closed) p e)
+            (S.inside (cut new old set) (closed_follows (follows_itself new new_names old old_names) new_formed old_formed S.closed) p e)
 
-  module _ {before : Areas} (N : NoRefusal new new-names old old-names before) (N' : NoRefusal new' new-names old' old-names before) where
+  module _ {before : Areas} (N : NoRefusal new new_names old old_names before) (N' : NoRefusal new' new_names old' old_names before) where
     pub yes_follows :
-        {after : Areas} {c : ℕ} → SaysYes new new-names old old-names before after c → SaysYes new' new-names old' old-names before after c
+        {after : Areas} {c : ℕ} → SaysYes new new_names old old_names before after c → SaysYes new' new_names old' old_names before after c
     yes_follows Y =
         record {
           set = Y.set;

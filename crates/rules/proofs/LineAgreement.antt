@@ -24,8 +24,8 @@ use Rattle.table.specs.declared.answers.Verdict.TheVariants as the
 
 -- where no refusal applies, none is given
 pub never_refused :
-    {new : Table} {new-names : List ℕ} {old : Table} {old-names : List ℕ} {before after : Areas} {n p : ℕ}
-    → NoRefusal new new-names old old-names before → Replaces new new-names old old-names before after (the.Refused n p) → ⊥
+    {new : Table} {new_names : List ℕ} {old : Table} {old_names : List ℕ} {before after : Areas} {n p : ℕ}
+    → NoRefusal new new_names old old_names before → Replaces new new_names old old_names before after (the.Refused n p) → ⊥
 never_refused F (new_not_formed a e) = false≢true (sym a ∙ F.new_formed)
 never_refused F (old_not_formed a b e) = false≢true (sym b ∙ F.old_formed)
 never_refused F (marks_short a b m e) = omega (arith, m, F.marks_long)
@@ -33,17 +33,17 @@ never_refused F (path_short a b m p e) = omega (arith, p, F.path_long)
 never_refused F (scratch_short a b m p s e) = omega (arith, s, F.scratch_long)
 
 -- Both texts were read: where the areas are long enough, no refusal applies, and a verdict has its line.
-module _ (q : Question) {new-text old-text : List ℕ} {new old : Table} {before : Areas} (a : Reads new-text (made new)) (b : Reads old-text (made old)) where
+module _ (q : Question) {new_text old_text : List ℕ} {new old : Table} {before : Areas} (a : Reads new_text (made new)) (b : Reads old_text (made old)) where
   pub texts_not_refused :
       pair_count new (against q old) ≤ length before.marks → pair_count new (against q old) ≤ length before.path
-      → scratch_size new (against q old) ≤ length before.scratch → NoRefusal new new-text (against q old) old-text before
+      → scratch_size new (against q old) ≤ length before.scratch → NoRefusal new new_text (against q old) old_text before
   texts_not_refused m p s =
       record { new_formed = read_formed a; old_formed = against_formed b q; marks_long = m; path_long = p; scratch_long = s }
 
   pub verdict_answers :
-      NoRefusal new new-text (against q old) old-text before → (v : Verdict) (after : Areas)
-      → Replaces new new-text (against q old) old-text before after v
-      → Answers q new-text old-text before after (verdict_line v after.path)
+      NoRefusal new new_text (against q old) old_text before → (v : Verdict) (after : Areas)
+      → Replaces new new_text (against q old) old_text before after v
+      → Answers q new_text old_text before after (verdict_line v after.path)
   verdict_answers F (the.Yes c) after r = yes a b r
   verdict_answers F (the.No f) after r = no a b r
   verdict_answers F (the.Refused n p) after r = absurd (never_refused F r)
@@ -51,24 +51,24 @@ module _ (q : Question) {new-text old-text : List ℕ} {new old : Table} {before
 abbrev pub no_areas : Areas
 no_areas = record { marks = []; path = []; scratch = [] }
 
-module _ (q : Question) (new-text old-text : List ℕ) where
+module _ (q : Question) (new_text old_text : List ℕ) where
   -- a line, and areas that it comes with
   abbrev Answered : List ℕ → Type 0
-  Answered l = (before : Areas) × (after : Areas) × Answers q new-text old-text before after l
+  Answered l = (before : Areas) × (after : Areas) × Answers q new_text old_text before after l
 
   second_answers :
-      (new : Table) → Reads new-text (made new) → (m : Made) → Reads old-text m → Answered (second_line q new new-text m old-text)
+      (new : Table) → Reads new_text (made new) → (m : Made) → Reads old_text m → Answered (second_line q new new_text m old_text)
   second_answers new a m (refuses f g) = (no_areas, no_areas, second_refused a (refuses f g) refl)
   second_answers new a m (accepts {x} w f) =
       let old = against q m.table in
       let zeros : (k : ℕ) → k ≤ length (replicate {A = ℕ} k 0) = λ k. omega (arith, length-replicate {A = ℕ} k 0) in
       let F = texts_not_refused q a (accepts w f) (zeros (pair_count new old)) (zeros (pair_count new old)) (zeros (scratch_size new old)) in
-      (areas_for new old, _, verdict_answers q a (accepts w f) F _ _ (verdict_replaces new new-text old old-text (areas_for new old)))
+      (areas_for new old, _, verdict_answers q a (accepts w f) F _ _ (verdict_replaces new new_text old old_text (areas_for new old)))
 
-  first_answers : (m : Made) → Reads new-text m → Answered (first_line q m new-text old-text)
+  first_answers : (m : Made) → Reads new_text m → Answered (first_line q m new_text old_text)
   unfolding first_line
   first_answers m (refuses f g) = (no_areas, no_areas, first_refused (refuses f g) refl)
-  first_answers m (accepts w f) = second_answers m.table (accepts w f) (reading old-text) (reads_reading old-text)
+  first_answers m (accepts w f) = second_answers m.table (accepts w f) (reading old_text) (reads_reading old_text)
 
 module _ (q : Question) (input : List ℕ) where
   pub prints_printed : Prints q input (printed q input)

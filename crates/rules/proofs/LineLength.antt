@@ -84,14 +84,14 @@ no-length f r S h =
     )
 
 -- the counts are those of the tables read
-module _ {q : Question} {new-text old-text : List ℕ} {n m : ℕ} (C : Counts q new-text old-text n m) where
-  pub counts_new : {new : Table} → Reads new-text (made new) → n ≡ new.count
+module _ {q : Question} {new_text old_text : List ℕ} {n m : ℕ} (C : Counts q new_text old_text n m) where
+  pub counts_new : {new : Table} → Reads new_text (made new) → n ≡ new.count
   counts_new r = C.new_count ∙ ap (λ (a : Made). a.table.count) (one_reading C.first_read r)
 
-  pub counts_old : {old : Table} → Reads old-text (made old) → m ≡ (against q old).count
+  pub counts_old : {old : Table} → Reads old_text (made old) → m ≡ (against q old).count
   counts_old r = C.old_count ∙ ap (λ (a : Made). (against q a.table).count) (one_reading C.second_read r)
 
-  pub line_length : {before after : Areas} {l : List ℕ} → Answers q new-text old-text before after l → length l ≤ line_size n m
+  pub line_length : {before after : Areas} {l : List ℕ} → Answers q new_text old_text before after l → length l ≤ line_size n m
   line_length (first_refused {n = k} {p} r e) =
       let s = refusal_small r in omega (arith, refused-length k 1 p s.0 (omega arith) s.1)
   line_length (second_refused {n = k} {p} a r e) =

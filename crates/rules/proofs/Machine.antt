@@ -16,9 +16,9 @@ pub data Expect : Type 0 where
   this : ℕ → Expect
   a_type : Expect
   -- behind an opening bracket, behind a comma, behind an item
-  some-items an_item more-items : Way → Expect
+  some_items an_item more_items : Way → Expect
   -- behind `{` or `|`, and behind a label's type
-  a-label more-labels : Expect
+  a_label more_labels : Expect
   -- the first definition
   a_definition : Expect
 
@@ -49,10 +49,10 @@ close_byte out = code "]"
 
 -- what follows a message's sign, a choice's, and a definition's name
 abbrev pub in_message : Way → Stack → Stack
-in_message d K = this (open_byte d) ∷ some-items d ∷ this (code ";") ∷ a_type ∷ K
+in_message d K = this (open_byte d) ∷ some_items d ∷ this (code ";") ∷ a_type ∷ K
 
 abbrev pub in_choice : Stack → Stack
-in_choice K = this (code "{") ∷ a-label ∷ K
+in_choice K = this (code "{") ∷ a_label ∷ K
 
 abbrev pub in_definition : Stack → Stack
 in_definition K = this (code "=") ∷ a_type ∷ this (code ".") ∷ K
@@ -65,11 +65,11 @@ type_rows K rs = (code "?" ⇒ in_message into K) ∷ (code "!" ⇒ in_message o
 abbrev pub byte_rows : Expect → Stack → List Row
 byte_rows (this b) K = (b ⇒ K) ∷ []
 byte_rows a_type K = type_rows K []
-byte_rows (some-items d) K = type_rows (more-items d ∷ K) ((close_byte d ⇒ K) ∷ [])
-byte_rows (an_item d) K = type_rows (more-items d ∷ K) []
-byte_rows (more-items d) K = (code "," ⇒ an_item d ∷ K) ∷ (close_byte d ⇒ K) ∷ []
-byte_rows a-label K = []
-byte_rows more-labels K = (code "|" ⇒ a-label ∷ K) ∷ (code "}" ⇒ K) ∷ []
+byte_rows (some_items d) K = type_rows (more_items d ∷ K) ((close_byte d ⇒ K) ∷ [])
+byte_rows (an_item d) K = type_rows (more_items d ∷ K) []
+byte_rows (more_items d) K = (code "," ⇒ an_item d ∷ K) ∷ (close_byte d ⇒ K) ∷ []
+byte_rows a_label K = []
+byte_rows more_labels K = (code "|" ⇒ a_label ∷ K) ∷ (code "}" ⇒ K) ∷ []
 byte_rows a_definition K = []
 
 -- the reserved words that an item may be: `end`, and the sorts
@@ -82,22 +82,22 @@ item_rows K =
 abbrev pub reserved_rows : Expect → Stack → List Row
 reserved_rows (this b) K = []
 reserved_rows a_type K = (end_position ⇒ K) ∷ []
-reserved_rows (some-items d) K = item_rows (more-items d ∷ K)
-reserved_rows (an_item d) K = item_rows (more-items d ∷ K)
-reserved_rows (more-items d) K = []
-reserved_rows a-label K = []
-reserved_rows more-labels K = []
+reserved_rows (some_items d) K = item_rows (more_items d ∷ K)
+reserved_rows (an_item d) K = item_rows (more_items d ∷ K)
+reserved_rows (more_items d) K = []
+reserved_rows a_label K = []
+reserved_rows more_labels K = []
 reserved_rows a_definition K = []
 
 -- what any other word leads to
 abbrev pub on_word : Expect → Stack → Next
 on_word (this b) K = stuck
 on_word a_type K = on K
-on_word (some-items d) K = on (more-items d ∷ K)
-on_word (an_item d) K = on (more-items d ∷ K)
-on_word (more-items d) K = stuck
-on_word a-label K = on (this (code ":") ∷ a_type ∷ more-labels ∷ K)
-on_word more-labels K = stuck
+on_word (some_items d) K = on (more_items d ∷ K)
+on_word (an_item d) K = on (more_items d ∷ K)
+on_word (more_items d) K = stuck
+on_word a_label K = on (this (code ":") ∷ a_type ∷ more_labels ∷ K)
+on_word more_labels K = stuck
 on_word a_definition K = on (in_definition K)
 
 unfoldable pub step : Stack → Symbol → Next

@@ -25,12 +25,12 @@ use Rattle.table.specs.declared.answers.Found.{Found}
 use Rattle.table.specs.declared.answers.Made.{Made}
 use Rattle.table.specs.declared.answers.Verdict.TheVariants as the
 
-module _ {new : Table} {new-names : List ℕ} {old : Table} {old-names : List ℕ} {before after : Areas} where
-  pub yes-may_replace : {c : ℕ} → Replaces new new-names old old-names before after (the.Yes c) → MayReplace new new-names old old-names
+module _ {new : Table} {new_names : List ℕ} {old : Table} {old_names : List ℕ} {before after : Areas} where
+  pub yes-may_replace : {c : ℕ} → Replaces new new_names old old_names before after (the.Yes c) → MayReplace new new_names old old_names
   yes-may_replace r = let Y = (yes_means r).1 in record { set = Y.set; closed = Y.smallest.closed }
 
   pub no_may_not_replace :
-      {f : Found} → Replaces new new-names old old-names before after (the.No f) → MayReplace new new-names old old-names → ⊥
+      {f : Found} → Replaces new new_names old old_names before after (the.No f) → MayReplace new new_names old old_names → ⊥
   no_may_not_replace r m = let X = (no_means r).1 in X.wrong (closed_no_mismatch m.closed X.run X.end X.runs)
 
 -- What the dual is refused for, and what it is given for: each exactly then.
@@ -86,14 +86,14 @@ given_formed t names u e =
     let g = given_means t names u e in
     rw g.2 (dual_formed t names g.0 (rw (dual_size t refl) g.1))
 
-module _ {new : Table} {new-names : List ℕ} {other : Table} {other-names : List ℕ} {before after : Areas} where
+module _ {new : Table} {new_names : List ℕ} {other : Table} {other_names : List ℕ} {before after : Areas} where
   pub yes_compatible :
-      {m : Made} {c : ℕ} → AsksCompatible new new-names other other-names before after m (some (the.Yes c)) → Compatible new new-names other other-names
+      {m : Made} {c : ℕ} → AsksCompatible new new_names other other_names before after m (some (the.Yes c)) → Compatible new new_names other other_names
   yes_compatible (then_verdict {t} e r) =
-      subst (λ (d : Table). MayReplace new new-names d other-names) (made-dual other other-names t e) (yes-may_replace r)
+      subst (λ (d : Table). MayReplace new new_names d other_names) (made-dual other other_names t e) (yes-may_replace r)
 
   pub no_not_compatible :
-      {m : Made} {f : Found} → AsksCompatible new new-names other other-names before after m (some (the.No f))
-      → Compatible new new-names other other-names → ⊥
+      {m : Made} {f : Found} → AsksCompatible new new_names other other_names before after m (some (the.No f))
+      → Compatible new new_names other other_names → ⊥
   no_not_compatible (then_verdict {t} e r) k =
-      no_may_not_replace r (subst (λ (d : Table). MayReplace new new-names d other-names) (sym (made-dual other other-names t e)) k)
+      no_may_not_replace r (subst (λ (d : Table). MayReplace new new_names d other_names) (sym (made-dual other other_names t e)) k)

@@ -82,7 +82,7 @@ module _ {s : List ℕ} {x : Text} (short : length s ≤ text_most) (w : Writes 
         → ((u : Token) → OneOf u before → (k : ℕ) × (n : ℕ) × (follow x n (to_name u.spelled) ≡ some k))
         → follow x (definition_count x) (to_name t.spelled) ≡ none → Reads s (refused leads_round t.at)
     unfolding group
-    reads_round before after t split lead-before e =
+    reads_round before after t split lead_before e =
         refuses (round_name w (record { before = before; after = after; split = split }) (never_leads x (to_name t.spelled) e))
         (λ m q f g. none_first (of_names f) g)
       where
@@ -90,7 +90,7 @@ module _ {s : List ℕ} {x : Text} (short : length s ≤ text_most) (w : Writes 
         none_first (undefined {t = u} o d) g = defined u o d
         none_first (round {t = u} o d) g =
             elim (first_defined w before after t split u o) [
-              | inl b ↦ let (k, n, f) = lead-before u b in none-ne-some k (sym (d n) ∙ f)
+              | inl b ↦ let (k, n, f) = lead_before u b in none-ne-some k (sym (d n) ∙ f)
               | inr l ↦ elim g [ inl h ↦ omega arith | inr (h, inl k) ↦ omega arith | inr (h, inr (k, j)) ↦ omega arith ]
             ]
 

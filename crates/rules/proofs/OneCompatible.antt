@@ -11,14 +11,14 @@ use Rattle.table.specs.declared.Table.{Table}
 use Rattle.table.specs.declared.answers.Made.{Made}
 use Rattle.table.specs.declared.answers.Verdict.{Verdict}
 
-module _ (new : Table) (new-names : List ℕ) (other : Table) (other-names : List ℕ) (before after after' : Areas) where
+module _ (new : Table) (new_names : List ℕ) (other : Table) (other_names : List ℕ) (before after after' : Areas) where
   pub one_compatible :
-      {m n : Made} {v w : Option Verdict} → AsksCompatible new new-names other other-names before after m v
-      → AsksCompatible new new-names other other-names before after' n w → (after ≡ after') × (m ≡ n) × (v ≡ w)
+      {m n : Made} {v w : Option Verdict} → AsksCompatible new new_names other other_names before after m v
+      → AsksCompatible new new_names other other_names before after' n w → (after ≡ after') × (m ≡ n) × (v ≡ w)
   one_compatible (no_dual a q) (no_dual b r) = (q ∙ sym r, sym a ∙ b, refl)
   one_compatible (no_dual a q) (then_verdict b X) = absurd (made_not_refused (sym b ∙ a))
   one_compatible (then_verdict a X) (no_dual b r) = absurd (made_not_refused (sym a ∙ b))
   one_compatible (then_verdict {t} {v} a X) (then_verdict {t = u} {v = w} b Y) =
       let e : t ≡ u = ap (λ (m : Made). m.table) (sym a ∙ b) in
-      let o = one_verdict new new-names u other-names before after after' (rw e at X) Y in
+      let o = one_verdict new new_names u other_names before after after' (rw e at X) Y in
       (o.0, sym a ∙ b, ap some o.1)

@@ -20,11 +20,11 @@ not_refused a b = made_not_refused (one_reading a b)
 same_refusal : {s : List ℕ} {n p m q : ℕ} (which : ℕ) → Reads s (refused n p) → Reads s (refused m q) → refused_line n which p ≡ refused_line m which q
 same_refusal which a b = let e = refused_one (one_reading a b) in rw (e.0, e.1)
 
-module _ {q : Question} {new-text old-text : List ℕ} where
+module _ {q : Question} {new_text old_text : List ℕ} where
   -- whichever areas were lent
   pub one_answer :
-      {before after before' after' : Areas} {l k : List ℕ} → Answers q new-text old-text before after l
-      → Answers q new-text old-text before' after' k → l ≡ k
+      {before after before' after' : Areas} {l k : List ℕ} → Answers q new_text old_text before after l
+      → Answers q new_text old_text before' after' k → l ≡ k
   one_answer (first_refused a e) (first_refused b f) = same_refusal 1 a b
   one_answer (first_refused a e) (second_refused b c f) = absurd (not_refused b a)
   one_answer (first_refused a e) (yes b c d) = absurd (not_refused b a)

@@ -12,7 +12,7 @@ use Rattle.rules.specs.Basics.{bytes}
 use Rattle.rules.specs.Words.{word_most}
 use Rattle.rules.specs.Tokens.{Token, Symbol, symbol}
 use Rattle.rules.specs.Numbers.{text_most, text_nodes_most, brackets_most}
-use Rattle.rules.specs.Refusals.{Begins, a_definition, a-label, an_item, nothing-new, one_of, is_end, begins_behind, Seen, entries_after, names_after, bracket_closed, brackets_after, nodes_after, seen_after, unexpected}
+use Rattle.rules.specs.Refusals.{Begins, a_definition, a_label, an_item, nothing_new, one_of, is_end, begins_behind, Seen, entries_after, names_after, bracket_closed, brackets_after, nodes_after, seen_after, unexpected}
 use Rattle.rules.specs.computed.Reading.{token_fault, lowest, one_more, again, place}
 use Rattle.rules.proofs.Machine.{Expect, Stack, step, stuck}
 use Rattle.rules.proofs.Reached.{Reached, Refuses, reached_stuck, reached_end}
@@ -51,8 +51,8 @@ next_symbol y =
       | true ↦ a_definition
       | false ↦
           elim (one_of (bytes "{|") y) [
-            | true ↦ a-label
-            | false ↦ elim (one_of (bytes "([,") y) [ true ↦ an_item | false ↦ nothing-new ]
+            | true ↦ a_label
+            | false ↦ elim (one_of (bytes "([,") y) [ true ↦ an_item | false ↦ nothing_new ]
           ]
     ]
 

@@ -18,14 +18,14 @@ use Rattle.table.specs.declared.Sort.TheVariants.{String, Float, Boolean, Void}
 
 -- which type a tree is at its root
 data Root : Type 0 where
-  an-end a_name : Root
-  a-message a-choice : Way → Root
+  an_end a_name : Root
+  a_message a_choice : Way → Root
 
 abbrev root : Ty → Root
-root ended = an-end
+root ended = an_end
 root (name w) = a_name
-root (message d xs x) = a-message d
-root (choice d ls) = a-choice d
+root (message d xs x) = a_message d
+root (choice d ls) = a_choice d
 
 -- what a first symbol tells: which type starts, or which sort, or neither
 data Start : Type 0 where
@@ -36,9 +36,9 @@ data Start : Type 0 where
 abbrev tells : List Symbol → Start
 tells [] = neither
 tells (word w ∷ k) = a_type a_name
-tells (reserved_word i ∷ k) = get_or (a_type an-end ∷ a_sort String ∷ a_sort Float ∷ a_sort Boolean ∷ a_sort Void ∷ []) i neither
+tells (reserved_word i ∷ k) = get_or (a_type an_end ∷ a_sort String ∷ a_sort Float ∷ a_sort Boolean ∷ a_sort Void ∷ []) i neither
 tells (one_byte b ∷ k) =
-    get_or (a_type (a-message into) ∷ a_type (a-message out) ∷ a_type (a-choice into) ∷ a_type (a-choice out) ∷ [])
+    get_or (a_type (a_message into) ∷ a_type (a_message out) ∷ a_type (a_choice into) ∷ a_type (a_choice out) ∷ [])
     (first 4 (λ i. eqb b (get_or (bytes "?!&+") i 0))) neither
 
 type_tells : (x : Ty) (k : List Symbol) → tells (write_type x k) ≡ a_type (root x)

@@ -25,11 +25,11 @@ use Rattle.table.specs.declared.answers.Found.{Found}
 use Rattle.table.specs.declared.answers.Verdict.{Verdict}
 use Rattle.table.specs.declared.answers.Verdict.TheVariants as the
 
-module _ (new : Table) (new-names : List ℕ) (old : Table) (old-names : List ℕ) where
+module _ (new : Table) (new_names : List ℕ) (old : Table) (old_names : List ℕ) where
   module _ {before after before' after' : Areas} where
     pub one_count :
-        {c c' : ℕ} → NoRefusal new new-names old old-names before → SaysYes new new-names old old-names before after c
-        → NoRefusal new new-names old old-names before' → SaysYes new new-names old old-names before' after' c'
+        {c c' : ℕ} → NoRefusal new new_names old old_names before → SaysYes new new_names old old_names before after c
+        → NoRefusal new new_names old old_names before' → SaysYes new new_names old old_names before' after' c'
         → (take (pair_count new old) after.marks ≡ take (pair_count new old) after'.marks) × (c ≡ c')
     one_count {c} {c'} F Y F' Y' =
         let e : take N after.marks ≡ take N after'.marks =
@@ -39,7 +39,7 @@ module _ (new : Table) (new-names : List ℕ) (old : Table) (old-names : List �
         N : ℕ
         N = pair_count new old
 
-        long : {b a : Areas} {k : ℕ} → NoRefusal new new-names old old-names b → SaysYes new new-names old old-names b a k → length (take N a.marks) ≡ N
+        long : {b a : Areas} {k : ℕ} → NoRefusal new new_names old old_names b → SaysYes new new_names old old_names b a k → length (take N a.marks) ≡ N
         long F Y = length-take-le N _ (omega (arith, F.marks_long, Y.size))
 
         less : {i : ℕ} → i < length (take N after.marks) → i < N
@@ -55,7 +55,7 @@ module _ (new : Table) (new-names : List ℕ) (old : Table) (old-names : List �
             ∙ sym (Y'.marked p w.turn_below w.new_below w.old_below))
 
     pub one_run :
-        {f f' : Found} (X : SaysNo new new-names old old-names before after f) (X' : SaysNo new new-names old old-names before' after' f')
+        {f f' : Found} (X : SaysNo new new_names old old_names before after f) (X' : SaysNo new new_names old old_names before' after' f')
         → (X.run ≡ X'.run) × (f ≡ f')
     one_run {f} {f'} X X' = (e, X.returned ∙ (rw (e, end)) ∙ sym X'.returned)
       where
@@ -68,10 +68,10 @@ module _ (new : Table) (new-names : List ℕ) (old : Table) (old-names : List �
         e = by_order (before_total X.run X'.run)
 
         end : X.end ≡ X'.end
-        end = leads_one new new-names old old-names X'.run (starts new old) X.end X'.end (rw e at X.runs) X'.runs
+        end = leads_one new new_names old old_names X'.run (starts new old) X.end X'.end (rw e at X.runs) X'.runs
 
     pub not_both :
-        {c : ℕ} {f : Found} → SaysYes new new-names old old-names before after c → SaysNo new new-names old old-names before' after' f → ⊥
+        {c : ℕ} {f : Found} → SaysYes new new_names old old_names before after c → SaysNo new new_names old old_names before' after' f → ⊥
     not_both Y X = X.wrong (closed_no_mismatch Y.smallest.closed X.run X.end X.runs)
 
 -- the first refusal that applies, by its position in the order; 5 where none does
@@ -88,27 +88,27 @@ refusal_at zero = the.Refused not_well_formed 1
 refusal_at (suc zero) = the.Refused not_well_formed 2
 refusal_at (suc (suc k)) = the.Refused area_too_short (suc k)
 
-module _ (new : Table) (new-names : List ℕ) (old : Table) (old-names : List ℕ) (before : Areas) where
+module _ (new : Table) (new_names : List ℕ) (old : Table) (old_names : List ℕ) (before : Areas) where
   abbrev stage : ℕ
   stage =
-      first_of (well_formed new new-names) (well_formed old old-names) (ltb (length before.marks) (pair_count new old))
+      first_of (well_formed new new_names) (well_formed old old_names) (ltb (length before.marks) (pair_count new old))
       (ltb (length before.path) (pair_count new old)) (ltb (length before.scratch) (scratch_size new old))
 
   module _ (after : Areas) where
     abbrev Says : Verdict → Type 0
-    Says (the.Yes c) = SaysYes new new-names old old-names before after c
-    Says (the.No f) = SaysNo new new-names old old-names before after f
+    Says (the.Yes c) = SaysYes new new_names old old_names before after c
+    Says (the.No f) = SaysNo new new_names old old_names before after f
     Says (the.Refused n p) = ⊥
 
     -- a reply is the first refusal, or there is none
     data Settled (v : Verdict) : Type 0 where
       refuses : (k : ℕ) → stage ≡ k → k < 5 → v ≡ refusal_at k → after ≡ before → Settled v
-      answers : stage ≡ 5 → NoRefusal new new-names old old-names before → Says v → Settled v
+      answers : stage ≡ 5 → NoRefusal new new_names old old_names before → Says v → Settled v
 
-    stage_none : NoRefusal new new-names old old-names before → stage ≡ 5
+    stage_none : NoRefusal new new_names old old_names before → stage ≡ 5
     stage_none F = rw (F.new_formed, F.old_formed, le-ltb _ _ F.marks_long, le-ltb _ _ F.path_long, le-ltb _ _ F.scratch_long)
 
-    settled : {v : Verdict} → Replaces new new-names old old-names before after v → Settled v
+    settled : {v : Verdict} → Replaces new new_names old old_names before after v → Settled v
     settled (new_not_formed a e) = refuses 0 (rw a) (omega arith) refl e
     settled (old_not_formed a b e) = refuses 1 (rw (a, b)) (omega arith) refl e
     settled (marks_short a b m e) = refuses 2 (rw (a, b, lt-ltb _ _ m)) (omega arith) refl e
@@ -118,15 +118,15 @@ module _ (new : Table) (new-names : List ℕ) (old : Table) (old-names : List �
     settled (says_no F X) = answers (stage_none F) F X
 
 -- the areas behind a yes, and behind a no, are given by those before it
-module _ (new : Table) (new-names : List ℕ) (old : Table) (old-names : List ℕ) (before after after' : Areas) where
+module _ (new : Table) (new_names : List ℕ) (old : Table) (old_names : List ℕ) (before after after' : Areas) where
   areas_equal : after.marks ≡ after'.marks → after.path ≡ after'.path → after.scratch ≡ after'.scratch → after ≡ after'
   areas_equal a b c = λ i. record { marks = a i; path = b i; scratch = c i }
 
   says_one :
-      (v w : Verdict) → NoRefusal new new-names old old-names before → NoRefusal new new-names old old-names before
-      → Says new new-names old old-names before after v → Says new new-names old old-names before after' w → (after ≡ after') × (v ≡ w)
+      (v w : Verdict) → NoRefusal new new_names old old_names before → NoRefusal new new_names old old_names before
+      → Says new new_names old old_names before after v → Says new new_names old old_names before after' w → (after ≡ after') × (v ≡ w)
   says_one (the.Yes c) (the.Yes d) F F' Y Y' =
-      let o = one_count new new-names old old-names F Y F' Y' in
+      let o = one_count new new_names old old_names F Y F' Y' in
       let N = pair_count new old in (
         areas_equal
             (sym (take-append-drop N after.marks) ∙ (rw (o.0, Y.beyond, Y'.beyond)) ∙ take-append-drop N after'.marks)
@@ -134,11 +134,11 @@ module _ (new : Table) (new-names : List ℕ) (old : Table) (old-names : List �
             (Y.scratch ∙ sym Y'.scratch),
         ap the.Yes o.1,
       )
-  says_one (the.Yes c) (the.No f) F F' Y X = absurd (not_both new new-names old old-names Y X)
+  says_one (the.Yes c) (the.No f) F F' Y X = absurd (not_both new new_names old old_names Y X)
   says_one (the.Yes c) (the.Refused n p) F F' Y X = absurd X
-  says_one (the.No f) (the.Yes c) F F' X Y = absurd (not_both new new-names old old-names Y X)
+  says_one (the.No f) (the.Yes c) F F' X Y = absurd (not_both new new_names old old_names Y X)
   says_one (the.No f) (the.No g) F F' X X' =
-      let o = one_run new new-names old old-names X X' in (
+      let o = one_run new new_names old old_names X X' in (
         areas_equal (X.marks ∙ sym X'.marks) (X.path ∙ (rw o.0) ∙ sym X'.path) (X.scratch ∙ sym X'.scratch),
         ap the.No o.1,
       )
@@ -146,11 +146,11 @@ module _ (new : Table) (new-names : List ℕ) (old : Table) (old-names : List �
   says_one (the.Refused n p) w F F' X Y = absurd X
 
   pub one_verdict :
-      {v w : Verdict} → Replaces new new-names old old-names before after v → Replaces new new-names old old-names before after' w
+      {v w : Verdict} → Replaces new new_names old old_names before after v → Replaces new new_names old old_names before after' w
       → (after ≡ after') × (v ≡ w)
-  one_verdict {v} {w} A B = by_stage (settled new new-names old old-names before after A) (settled new new-names old old-names before after' B)
+  one_verdict {v} {w} A B = by_stage (settled new new_names old old_names before after A) (settled new new_names old old_names before after' B)
     where
-      by_stage : Settled new new-names old old-names before after v → Settled new new-names old old-names before after' w → (after ≡ after') × (v ≡ w)
+      by_stage : Settled new new_names old old_names before after v → Settled new new_names old old_names before after' w → (after ≡ after') × (v ≡ w)
       by_stage (refuses k a l e q) (refuses j b m d r) = let s : k ≡ j = omega (arith, a, b) in (q ∙ sym r, e ∙ ap refusal_at s ∙ sym d)
       by_stage (refuses k a l e q) (answers b F X) = absurd (omega (arith, a, b))
       by_stage (answers a F X) (refuses j b m d r) = absurd (omega (arith, a, b))

@@ -27,7 +27,7 @@ use Rattle.table.specs.declared.answers.Written.{Written}
 use Rattle.table.specs.declared.answers.Written.TheVariants.{Line, Refused}
 
 pub one_counts :
-    {q : Question} {new-text old-text : List ℕ} {n m n' m' : ℕ} → Counts q new-text old-text n m → Counts q new-text old-text n' m'
+    {q : Question} {new_text old_text : List ℕ} {n m n' m' : ℕ} → Counts q new_text old_text n m → Counts q new_text old_text n' m'
     → (n ≡ n') × (m ≡ m')
 one_counts {q} C D =
     let a = one_reading C.first_read D.first_read in
@@ -67,8 +67,8 @@ module _ {n m : ℕ} {k : Lengths} where
 
 -- the areas behind a line: untouched where a text is refused, else those of the verdict
 one_areas :
-    {q : Question} {new-text old-text : List ℕ} {before after after' : Areas} {l k : List ℕ}
-    → Answers q new-text old-text before after l → Answers q new-text old-text before after' k → after ≡ after'
+    {q : Question} {new_text old_text : List ℕ} {before after after' : Areas} {l k : List ℕ}
+    → Answers q new_text old_text before after l → Answers q new_text old_text before after' k → after ≡ after'
 one_areas (first_refused a e) (first_refused b f) = e ∙ sym f
 one_areas (first_refused a e) (second_refused b c f) = e ∙ sym f
 one_areas (first_refused a e) (yes b c d) = absurd (not_refused b a)
@@ -87,8 +87,8 @@ one_areas (no a b c) (yes d e f) = (one_verdict _ _ _ _ _ _ _ (rw (same_table a 
 one_areas (no a b c) (no d e f) = (one_verdict _ _ _ _ _ _ _ (rw (same_table a d, same_table b e) at c) f).0
 
 pub one_written :
-    {q : Question} {new-text old-text : List ℕ} {before after after' : LineAreas} {r r' : Written}
-    → WritesLine q new-text old-text before after r → WritesLine q new-text old-text before after' r' → (after ≡ after') × (r ≡ r')
+    {q : Question} {new_text old_text : List ℕ} {before after after' : LineAreas} {r r' : Written}
+    → WritesLine q new_text old_text before after r → WritesLine q new_text old_text before after' r' → (after ≡ after') × (r ≡ r')
 one_written (refuses C S e) (refuses D T f) =
     let c = one_counts C D in (e ∙ sym f, ap (Refused area_too_short) (one_short (rw (c.0, c.1) at S) T))
 one_written (refuses C S e) (writes D A W f) = let c = one_counts C D in absurd (not_short A (rw (c.0, c.1) at S))
@@ -126,10 +126,10 @@ room n m k =
           line_long = ltb-false _ _ h;
         })
 
-module _ (q : Question) (new-text old-text : List ℕ) (before : Areas) where
+module _ (q : Question) (new_text old_text : List ℕ) (before : Areas) where
   -- a line, and what the areas hold behind it
   abbrev Answered : Type 0
-  Answered = (after : Areas) × (l : List ℕ) × Answers q new-text old-text before after l
+  Answered = (after : Areas) × (l : List ℕ) × Answers q new_text old_text before after l
 
   abbrev Long : Made → Made → Type 0
   Long a b =
@@ -137,7 +137,7 @@ module _ (q : Question) (new-text old-text : List ℕ) (before : Areas) where
       × (pair_count a.table (against q b.table) ≤ length before.path)
       × (scratch_size a.table (against q b.table) ≤ length before.scratch)
 
-  answers_exist : (a b : Made) → Reads new-text a → Reads old-text b → Long a b → Answered
+  answers_exist : (a b : Made) → Reads new_text a → Reads old_text b → Long a b → Answered
   answers_exist a b (replies.refuses f g) S L = (before, _, first_refused (replies.refuses f g) refl)
   answers_exist a b (replies.accepts v f) (replies.refuses g h) L =
       (before, _, second_refused (replies.accepts v f) (replies.refuses g h) refl)
@@ -145,18 +145,18 @@ module _ (q : Question) (new-text old-text : List ℕ) (before : Areas) where
       let old = against q b.table in
       let v = replies.accepts v f in
       let w = replies.accepts w g in
-      (_, _, verdict_answers q v w (texts_not_refused q v w L.0 L.1 L.2) _ _ (verdict_replaces a.table new-text old old-text before))
+      (_, _, verdict_answers q v w (texts_not_refused q v w L.0 L.1 L.2) _ _ (verdict_replaces a.table new_text old old_text before))
 
 pub written_exists :
-    (q : Question) (new-text old-text : List ℕ) (before : LineAreas)
-    → (after : LineAreas) × (r : Written) × WritesLine q new-text old-text before after r
-written_exists q new-text old-text before = go (room n m (lengths before))
+    (q : Question) (new_text old_text : List ℕ) (before : LineAreas)
+    → (after : LineAreas) × (r : Written) × WritesLine q new_text old_text before after r
+written_exists q new_text old_text before = go (room n m (lengths before))
   where
     a : Made
-    a = reading new-text
+    a = reading new_text
 
     b : Made
-    b = reading old-text
+    b = reading old_text
 
     n : ℕ
     n = a.table.count
@@ -164,21 +164,21 @@ written_exists q new-text old-text before = go (room n m (lengths before))
     m : ℕ
     m = (against q b.table).count
 
-    C : Counts q new-text old-text n m
+    C : Counts q new_text old_text n m
     C =
         record {
           first = a;
           second = b;
-          first_read = reads_reading new-text;
-          second_read = reads_reading old-text;
+          first_read = reads_reading new_text;
+          second_read = reads_reading old_text;
           new_count = refl;
           old_count = refl;
         }
 
-    go : Room n m (lengths before) → (after : LineAreas) × (r : Written) × WritesLine q new-text old-text before after r
+    go : Room n m (lengths before) → (after : LineAreas) × (r : Written) × WritesLine q new_text old_text before after r
     go (too_short S) = (before, _, refuses C S refl)
     go (enough A) =
         let (after, l, w) =
-        answers_exist q new-text old-text before.lent a b (reads_reading new-text) (reads_reading old-text)
+        answers_exist q new_text old_text before.lent a b (reads_reading new_text) (reads_reading old_text)
         (A.marks_long, A.path_long, A.scratch_long) in
         (record { lent = after; line = l ++ drop (length l) before.line }, _, writes C A w refl)

@@ -13,7 +13,7 @@ use Rattle.rules.specs.Numbers.{text_nodes_most, table_nodes_most}
 use Rattle.rules.specs.Pairs.{turns_most}
 use Rattle.rules.specs.Replies.{Reads, accepts, refuses}
 use Rattle.rules.specs.Line.{Question, may_replace, is_compatible, against, first_text, second_text}
-use Rattle.rules.specs.Writing.{LineAreas, Counts, Lengths, lengths, AllLong, WritesLine, refuses as refuses-area, writes, PrintsInto}
+use Rattle.rules.specs.Writing.{LineAreas, Counts, Lengths, lengths, AllLong, WritesLine, refuses as refuses_area, writes, PrintsInto}
 use Rattle.table.specs.declared.answers.Made.{Made}
 use Rattle.table.specs.declared.answers.Written.TheVariants.{Line, Refused}
 
@@ -33,7 +33,7 @@ old_few is_compatible (refuses f g) = omega (arith, blank-against is_compatible)
 
 -- so many nodes there are at most
 pub counts_few :
-    {q : Question} {new-text old-text : List ℕ} {n m : ℕ} → Counts q new-text old-text n m → (n ≤ text_nodes_most) × (m ≤ against_most q)
+    {q : Question} {new_text old_text : List ℕ} {n m : ℕ} → Counts q new_text old_text n m → (n ≤ text_nodes_most) × (m ≤ against_most q)
 counts_few {q} C = (rw C.new_count (new_few C.first_read), rw C.old_count (old_few q C.second_read))
 
 -- fewer nodes have fewer pairs, whatever stands for each
@@ -50,11 +50,11 @@ fewer_long a b L =
       line_long = omega (arith, fewer_pairs 6 a b, L.line_long);
     }
 
-module _ {q : Question} {new-text old-text : List ℕ} {before after : LineAreas} where
+module _ {q : Question} {new_text old_text : List ℕ} {before after : LineAreas} where
   -- no area is refused
   pub own_enough :
-      {n p : ℕ} → AllLong text_nodes_most (against_most q) (lengths before) → WritesLine q new-text old-text before after (Refused n p) → ⊥
-  own_enough L (refuses-area C s e) =
+      {n p : ℕ} → AllLong text_nodes_most (against_most q) (lengths before) → WritesLine q new_text old_text before after (Refused n p) → ⊥
+  own_enough L (refuses_area C s e) =
       let few = counts_few C in
       not_short (fewer_long few.0 few.1 L) s
 

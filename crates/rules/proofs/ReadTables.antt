@@ -1,6 +1,6 @@
 -- The table that is read of a text is well formed, with the text as its name bytes.
 -- Assumes nothing.
-use mathlib.Core.Bool.{true, false≢true}
+use mathlib.Core.Bool.{true, false, false≢true}
 use mathlib.Core.List.{List, [], ◌∷◌, ◌++◌}
 use mathlib.Core.Path.{◌≡◌, refl, sym, ap, ◌∙◌}
 use Prim.Native.Nat.{ℕ, zero, suc, ◌+◌, ◌<◌, ◌≤◌}
@@ -11,8 +11,8 @@ use Rattle.rules.specs.Words.{may_name}
 use Rattle.rules.specs.Tokens.{Token}
 use Rattle.rules.specs.Notation.{Way, into, out, Ty, ended, name, message, choice, Items, no_items, sort, session, Labels, last_label, label, Text, last_definition, definition}
 use Rattle.rules.specs.Numbers.{items_most, labels_most, table_nodes_most, text_nodes_most}
-use Rattle.rules.specs.Tables.{no_node, blank_slot, blank_label, blank_node, node_at, item_at, item_count, label_at, label_count, continuation, spelling, spelling_at}
-use Rattle.rules.specs.Numbering.{behind, behind_items, behind_labels, behind_text, link, slots, entry, entries, message_node, choice_node, nodes, nodes_items, nodes_labels, nodes_text, start_type, table_of}
+use Rattle.rules.specs.Tables.{no_node, blank_slot, blank_label, blank_node, node_at, item_at, item_count, label_at, label_count, continuation, is_message, is_choice, spelling, spelling_at}
+use Rattle.rules.specs.Numbering.{behind, behind_items, behind_labels, behind_text, link, message_kind, choice_kind, slots, entry, entries, message_node, choice_node, nodes, nodes_items, nodes_labels, nodes_text, start_type, table_of}
 use Rattle.rules.specs.Refusals.{uses, uses_items, uses_labels, used_names, among}
 use Rattle.rules.specs.Formed.{well_formed}
 use Rattle.rules.specs.Replies.{Reads, made}
@@ -159,10 +159,10 @@ module _ (t : Text) (s : List ℕ) where
     message_here = message_node t d xs x k
 
     items_here : item_count message_here ≡ length (slots t xs (suc k))
-    items_here = elim d [ into ↦ refl | out ↦ refl ]
+    items_here = elim d as (λ d. item_count (message_node t d xs x k) ≡ length (slots t xs (suc k))) [ into ↦ refl | out ↦ refl ]
 
     next_here : continuation message_here ≡ link t x (behind_items xs (suc k))
-    next_here = elim d [ into ↦ refl | out ↦ refl ]
+    next_here = elim d as (λ d. continuation (message_node t d xs x k) ≡ link t x (behind_items xs (suc k))) [ into ↦ refl | out ↦ refl ]
 
     slot_links : (i j : ℕ) → i < item_count message_here → item_at message_here i ≡ Session j → j < behind_text t 0
     slot_links i j m e =
@@ -180,7 +180,7 @@ module _ (t : Text) (s : List ℕ) where
                 item_links = slot_links;
                 goes_on = rw next_here (link_below t x (behind_items xs (suc k)) us l (past-uses_items (GetsTo t) xs (uses x us) h));
               };
-          choice = elim d [ into ↦ no_choice refl | out ↦ no_choice refl ];
+          choice = no_choice (elim d as (λ d. is_choice (message_kind d) ≡ false) [ into ↦ refl | out ↦ refl ]);
         }
 
   module _ (d : Way) (ls : Labels) (k : ℕ) (us : List Token) (l : behind_labels ls (suc k) ≤ behind_text t 0) (f : FitLabels s ls []) (h : Each (GetsTo t) (uses_labels ls us)) where
@@ -188,7 +188,7 @@ module _ (t : Text) (s : List ℕ) where
     choice_here = choice_node t d ls k
 
     labels_here : label_count choice_here ≡ length (entries t ls (suc k))
-    labels_here = elim d [ into ↦ refl | out ↦ refl ]
+    labels_here = elim d as (λ d. label_count (choice_node t d ls k) ≡ length (entries t ls (suc k))) [ into ↦ refl | out ↦ refl ]
 
     label_here : (i : ℕ) → i < label_count choice_here → label_at choice_here i ≡ get_or (entries t ls (suc k)) i blank_label
     label_here i m = fill_at labels_most blank_label blank_label (entries t ls (suc k)) i (omega (arith, labels_here))
@@ -207,7 +207,7 @@ module _ (t : Text) (s : List ℕ) where
     choice_formed : 1 ≤ behind_text t 0 → FormedHere choice_here
     choice_formed p =
         record {
-          message = elim d [ into ↦ no_message p refl | out ↦ no_message p refl ];
+          message = no_message p (elim d as (λ d. is_message (choice_kind d) ≡ false) [ into ↦ refl | out ↦ refl ]);
           choice =
               record {
                 some_label = λ c. omega (arith, labels_here, entries_some ls (suc k));

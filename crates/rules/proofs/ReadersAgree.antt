@@ -15,7 +15,7 @@ use Rattle.rules.specs.Tokens.{Token, Symbol, word, reserved_word, one_byte, sym
 use Rattle.rules.specs.Notation.{Way, into, out, Ty, message, choice, Items, sort, session, Labels, label, Text, definition, sign, end_position, sort_position, message_sign, choice_sign, opening, closing, parted, write_type, write_items, write_labels, write_text}
 use Rattle.rules.specs.computed.Reading.{Got, got, is_sign, expect, sort_of, Readers, rest_with, session_with, item_with, items_with, message_with, more_with, labels_with, choice_with, type_with, readers, text_with, text_from}
 use Rattle.rules.specs.computed.Reading as reader
-use Rattle.rules.proofs.Machine.{Expect, this, a_type, some-items, an_item, more-items, a-label, more-labels, Stack, Next, on, stuck, Row, ◌⇒◌, look, open_byte, close_byte, type_rows, item_rows, in_message, in_choice, in_definition, step, start}
+use Rattle.rules.proofs.Machine.{Expect, this, a_type, some_items, an_item, more_items, a_label, more_labels, Stack, Next, on, stuck, Row, ◌⇒◌, look, open_byte, close_byte, type_rows, item_rows, in_message, in_choice, in_definition, step, start}
 use Rattle.rules.proofs.Taken.{this_step}
 use Rattle.table.specs.declared.Sort.{Sort}
 use Rattle.table.specs.declared.Sort.TheVariants.{String, Float, Boolean, Void}
@@ -165,19 +165,19 @@ abbrev TypeAt : Stack → List Token → Got Ty → Type 0
 TypeAt K ts = Outcome (a_type ∷ K) ts K (IsType (symbols ts))
 
 abbrev ItemsAt : Way → Stack → List Token → Got Items → Type 0
-ItemsAt d K ts = Outcome (some-items d ∷ K) ts K (IsItems d (symbols ts))
+ItemsAt d K ts = Outcome (some_items d ∷ K) ts K (IsItems d (symbols ts))
 
 abbrev ItemAt : Way → Stack → List Token → Got Items → Type 0
 ItemAt d K ts = Outcome (an_item d ∷ K) ts K (IsItem d (symbols ts))
 
 abbrev RestAt : Way → Stack → List Token → Got Items → Type 0
-RestAt d K ts = Outcome (more-items d ∷ K) ts K (IsRest d (symbols ts))
+RestAt d K ts = Outcome (more_items d ∷ K) ts K (IsRest d (symbols ts))
 
 abbrev LabelsAt : Stack → List Token → Got Labels → Type 0
-LabelsAt K ts = Outcome (a-label ∷ K) ts K (IsLabels (symbols ts))
+LabelsAt K ts = Outcome (a_label ∷ K) ts K (IsLabels (symbols ts))
 
 abbrev MoreAt : Token → Ty → Stack → List Token → Got Labels → Type 0
-MoreAt w x K ts = Outcome (more-labels ∷ K) ts K (IsMore w x (symbols ts))
+MoreAt w x K ts = Outcome (more_labels ∷ K) ts K (IsMore w x (symbols ts))
 
 -- behind a message's sign, and behind a choice's
 abbrev MessageAt : Way → Stack → List Token → Got Ty → Type 0
@@ -201,18 +201,18 @@ opening_byte : (d : Way) → opening d ≡ one_byte (open_byte d)
 opening_byte into = refl
 opening_byte out = refl
 
-some_closed : (d : Way) (K : Stack) (a : Symbol) → a ≡ closing d → step (some-items d ∷ K) a ≡ on K
+some_closed : (d : Way) (K : Stack) (a : Symbol) → a ≡ closing d → step (some_items d ∷ K) a ≡ on K
 unfolding step look
 some_closed into K a e = rw e refl
 some_closed out K a e = rw e refl
 
-more_closed : (d : Way) (K : Stack) (a : Symbol) → a ≡ closing d → step (more-items d ∷ K) a ≡ on K
+more_closed : (d : Way) (K : Stack) (a : Symbol) → a ≡ closing d → step (more_items d ∷ K) a ≡ on K
 unfolding step look
 more_closed into K a e = rw e refl
 more_closed out K a e = rw e refl
 
 behind_item_stuck :
-    (d : Way) (K : Stack) (a : Symbol) → is_sign a (closing d) ≡ false → is_sign a (sign ",") ≡ false → step (more-items d ∷ K) a ≡ stuck
+    (d : Way) (K : Stack) (a : Symbol) → is_sign a (closing d) ≡ false → is_sign a (sign ",") ≡ false → step (more_items d ∷ K) a ≡ stuck
 unfolding step look
 behind_item_stuck d K (word w) e f = refl
 behind_item_stuck d K (reserved_word i) e f = refl
@@ -220,7 +220,7 @@ behind_item_stuck into K (one_byte b) e f = rw (look, f, look, e)
 behind_item_stuck out K (one_byte b) e f = rw (look, f, look, e)
 
 behind_label-stuck :
-    (K : Stack) (a : Symbol) → is_sign a (sign "}") ≡ false → is_sign a (sign "|") ≡ false → step (more-labels ∷ K) a ≡ stuck
+    (K : Stack) (a : Symbol) → is_sign a (sign "}") ≡ false → is_sign a (sign "|") ≡ false → step (more_labels ∷ K) a ≡ stuck
 unfolding step look
 behind_label-stuck K (word w) e f = refl
 behind_label-stuck K (reserved_word i) e f = refl
@@ -233,12 +233,12 @@ look_front [] qs b e = e
 look_front ((c ⇒ K) ∷ rs) qs b e = ap (λ m. elim (eqb b c) as (λ z. Next) [ true ↦ on K | false ↦ m ]) (look_front rs qs b e)
 
 -- so the first item of a list is as one behind a comma, unless the list is closed;
-some_alike : (d : Way) (K : Stack) (a : Symbol) → is_sign a (closing d) ≡ false → step (some-items d ∷ K) a ≡ step (an_item d ∷ K) a
+some_alike : (d : Way) (K : Stack) (a : Symbol) → is_sign a (closing d) ≡ false → step (some_items d ∷ K) a ≡ step (an_item d ∷ K) a
 unfolding step look
 some_alike d K (word w) e = refl
 some_alike d K (reserved_word i) e = refl
-some_alike into K (one_byte b) e = look_front (type_rows (more-items into ∷ K) []) ((close_byte into ⇒ K) ∷ []) b (rw (look, e))
-some_alike out K (one_byte b) e = look_front (type_rows (more-items out ∷ K) []) ((close_byte out ⇒ K) ∷ []) b (rw (look, e))
+some_alike into K (one_byte b) e = look_front (type_rows (more_items into ∷ K) []) ((close_byte into ⇒ K) ∷ []) b (rw (look, e))
+some_alike out K (one_byte b) e = look_front (type_rows (more_items out ∷ K) []) ((close_byte out ⇒ K) ∷ []) b (rw (look, e))
 
 -- and a reserved word that is no sort leads where it leads a type
 abbrev sort_rows : Stack → List Row
@@ -256,7 +256,7 @@ sort_cases P i f g =
     g (λ K. look_front ((end_position ⇒ K) ∷ []) (sort_rows K) i (rw (look, a, look, b, look, c, look, d)))))))
 
 sort_taken :
-    (s : Sort) (d : Way) (K : Stack) (a : Symbol) → a ≡ reserved_word (sort_position s) → step (an_item d ∷ K) a ≡ on (more-items d ∷ K)
+    (s : Sort) (d : Way) (K : Stack) (a : Symbol) → a ≡ reserved_word (sort_position s) → step (an_item d ∷ K) a ≡ on (more_items d ∷ K)
 unfolding step look
 sort_taken String d K a e = rw e refl
 sort_taken Float d K a e = rw e refl
@@ -280,9 +280,9 @@ module _ {r : Readers} {n : ℕ} (R : Agree r n) where
   -- an item, and those behind it
   session_agrees :
       (d : Way) (ts : List Token) (K : Stack) → length ts ≤ n
-      → Outcome (a_type ∷ more-items d ∷ K) ts K (IsItem d (symbols ts)) (session_with r d ts)
+      → Outcome (a_type ∷ more_items d ∷ K) ts K (IsItem d (symbols ts)) (session_with r d ts)
   session_agrees d ts K l =
-      outcome_then _ (R.types_agree ts (more-items d ∷ K) l) (λ x us m e.
+      outcome_then _ (R.types_agree ts (more_items d ∷ K) l) (λ x us m e.
       outcome-made (session x) (rest_agrees d us K (omega arith)) (λ xs rest f. is_item (e ∙ ap (write_type x) f)))
 
   sort_agrees :
@@ -303,7 +303,7 @@ module _ {r : Readers} {n : ℕ} (R : Agree r n) where
         | some s ↦ reader.and_then (rest_with r d ts) (λ xs us. got (sort s xs) us)
         | none ↦ session_with r d (t ∷ ts)
       ])) i (λ s f. sort_agrees s d t ts K (omega arith) (e ∙ ap reserved_word f))
-      (λ f. outcome_alike (rw e (f (more-items d ∷ K))) (session_agrees d (t ∷ ts) K l)))
+      (λ f. outcome_alike (rw e (f (more_items d ∷ K))) (session_agrees d (t ∷ ts) K l)))
       (λ b e. outcome_alike (rw e refl) (session_agrees d (t ∷ ts) K l))
 
   items_agree : (d : Way) (ts : List Token) (K : Stack) → length ts ≤ n → ItemsAt d K ts (items_with r d ts)
@@ -333,11 +333,11 @@ module _ {r : Readers} {n : ℕ} (R : Agree r n) where
 
   label_agrees :
       (w : Token) (ts : List Token) (K : Stack) → length ts ≤ n
-      → Outcome (this (code ":") ∷ a_type ∷ more-labels ∷ K) ts K (IsLabels (word w ∷ symbols ts))
+      → Outcome (this (code ":") ∷ a_type ∷ more_labels ∷ K) ts K (IsLabels (word w ∷ symbols ts))
       (expect (sign ":") ts (λ us. reader.and_then (r.types us) (λ x vs. more_with r w x vs)))
   label_agrees w ts K l =
       outcome-expect ts _ refl (λ ts₁ l₁ e₁.
-      outcome_then _ (R.types_agree ts₁ (more-labels ∷ K) (omega arith)) (λ x ts₂ l₂ e₂.
+      outcome_then _ (R.types_agree ts₁ (more_labels ∷ K) (omega arith)) (λ x ts₂ l₂ e₂.
       outcome_as (more_agrees w x ts₂ K (omega arith)) (λ ls rest q. rw (e₁, e₂) q)))
 
   labels_with_agree : (ts : List Token) (K : Stack) → length ts ≤ suc n → LabelsAt K ts (labels_with r ts)

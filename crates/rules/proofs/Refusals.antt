@@ -12,7 +12,7 @@ use lib.Dec.{leb, ltb}
 use lib.ListN.{length}
 use borrow.Author.Tests.{le-leb, lt-leb, leb-true, ltb-true, lt-ltb}
 use Rattle.rules.specs.Numbers.{brackets_most, text_nodes_most}
-use Rattle.rules.specs.Refusals.{GoesFirst, group, text_too_long, unexpected, word_too_long, bracket_too_many, one_too_many, name_twice, label_twice, never_defined, leads_round, Begins, a_definition, a-label, an_item, nothing-new, Seen, TokenFault, long_word, open_bracket, definition_more, node_more, label_more, item_more, same_label, same_name, opens, begins_node}
+use Rattle.rules.specs.Refusals.{GoesFirst, group, text_too_long, unexpected, word_too_long, bracket_too_many, one_too_many, name_twice, label_twice, never_defined, leads_round, Begins, a_definition, a_label, an_item, nothing_new, Seen, TokenFault, long_word, open_bracket, definition_more, node_more, label_more, item_more, same_label, same_name, opens, begins_node}
 use Rattle.rules.specs.Tokens.{Token}
 use Rattle.rules.specs.Words.{word_most}
 use Rattle.rules.specs.computed.Reading.{one_more, if_so, again, lowest, token_fault}
@@ -108,9 +108,9 @@ module _ (z : Seen) (t : Token) where
 
   more_declared : (b : Begins) → z.next ≡ b → one_more z t b ≡ true → TokenFault z t one_too_many
   more_declared a_definition e h = definition_more e (leb-true _ _ h)
-  more_declared a-label e h = label_more e (leb-true _ _ h)
+  more_declared a_label e h = label_more e (leb-true _ _ h)
   more_declared an_item e h = item_more e (leb-true _ _ h)
-  more_declared nothing-new e h = absurd (false≢true h)
+  more_declared nothing_new e h = absurd (false≢true h)
 
   five_declared :
       (b : Bool) → too_many_nodes ≡ b → (b || one_more z t z.next) ≡ true → TokenFault z t one_too_many
@@ -119,9 +119,9 @@ module _ (z : Seen) (t : Token) where
 
   again_declared : (b : Begins) (n : ℕ) → z.next ≡ b → again z t b ≡ some n → TokenFault z t n
   again_declared a_definition n e h = let w = if_so_some _ name_twice n h in rw (← w.1) (same_name e w.0)
-  again_declared a-label n e h = let w = if_so_some _ label_twice n h in rw (← w.1) (same_label e w.0)
+  again_declared a_label n e h = let w = if_so_some _ label_twice n h in rw (← w.1) (same_label e w.0)
   again_declared an_item n e h = let y : ◌≡◌ {A = ℕ} 0 1 = cc in absurd (omega arith)
-  again_declared nothing-new n e h = let y : ◌≡◌ {A = ℕ} 0 1 = cc in absurd (omega arith)
+  again_declared nothing_new n e h = let y : ◌≡◌ {A = ℕ} 0 1 = cc in absurd (omega arith)
 
   pub token_fault_declared : (n : ℕ) → token_fault z t ≡ some n → TokenFault z t n
   unfolding token_fault

@@ -240,7 +240,7 @@ module _ {x x' y y' : Node} (xs ys : List ℕ) (S : ReorderedNode x x') (T : Reo
       go c Branch d = choice_step_reordered xs ys S T d fy.choice s
       go c Choose d = let (r, q) = choice_step_reordered ys xs T S d fx.choice s in (r, ap exchanged q)
 
-module _ {new new' : Table} (new-names : List ℕ) {old old' : Table} (old-names : List ℕ) (S : ReorderedTable new new') (T : ReorderedTable old old') where
+module _ {new new' : Table} (new_names : List ℕ) {old old' : Table} (old_names : List ℕ) (S : ReorderedTable new new') (T : ReorderedTable old old') where
   module _ (p : Pair) (w : Within new old p) where
     left_reordered :
         ReorderedNode (left_in p.turn (node_at new p.new) (node_at old p.old))
@@ -252,49 +252,49 @@ module _ {new new' : Table} (new-names : List ℕ) {old old' : Table} (old-names
         (right_in p.turn (node_at new' p.new) (node_at old' p.old))
     right_reordered = right_both ReorderedNode (S.each p.new w.new_below) (T.each p.old w.old_below) p.turn
 
-    pair_fits : mismatch_at new new-names old old-names p ≡ mismatch.Nothing → mismatch_at new' new-names old' old-names p ≡ mismatch.Nothing
+    pair_fits : mismatch_at new new_names old old_names p ≡ mismatch.Nothing → mismatch_at new' new_names old' old_names p ≡ mismatch.Nothing
     unfolding mismatch_at
     pair_fits e =
-        fits_reordered (left_in p.turn new-names old-names) (right_in p.turn new-names old-names) left_reordered right_reordered e
+        fits_reordered (left_in p.turn new_names old_names) (right_in p.turn new_names old_names) left_reordered right_reordered e
 
     pair_steps :
-        WellFormed new new-names → WellFormed old old-names → mismatch_at new new-names old old-names p ≡ mismatch.Nothing → (q : Pair)
-        (s : ℕ) → Step new' new-names old' old-names p s q → (r : ℕ) × Step new new-names old old-names p r q
+        WellFormed new new_names → WellFormed old old_names → mismatch_at new new_names old old_names p ≡ mismatch.Nothing → (q : Pair)
+        (s : ℕ) → Step new' new_names old' old_names p s q → (r : ℕ) × Step new new_names old old_names p r q
     unfolding mismatch_at step_at
     pair_steps f g e q s st =
         let a = f.each p.new w.new_below in
         let b = g.each p.old w.old_below in
         let (r, d) =
-        step_reordered (left_in p.turn new-names old-names) (right_in p.turn new-names old-names) left_reordered right_reordered e
+        step_reordered (left_in p.turn new_names old_names) (right_in p.turn new_names old_names) left_reordered right_reordered e
         (left_formed p.turn a b) (right_formed p.turn a b) s in
         (r, record { fits = e; leads = ap (landed p.turn) d ∙ st.leads })
 
-module _ {new new' : Table} {new-names : List ℕ} {old old' : Table} {old-names : List ℕ} (S : ReorderedTable new new') (T : ReorderedTable old old') where
-  reordered_follows : WellFormed new new-names → WellFormed old old-names → Follows new new' new-names old old' old-names
+module _ {new new' : Table} {new_names : List ℕ} {old old' : Table} {old_names : List ℕ} (S : ReorderedTable new new') (T : ReorderedTable old old') where
+  reordered_follows : WellFormed new new_names → WellFormed old old_names → Follows new new' new_names old old' old_names
   reordered_follows f g =
       record {
         new_count = S.count;
         old_count = T.count;
         new_start = S.start;
         old_start = T.start;
-        fits = λ p w e. pair_fits new-names old-names S T p w e;
+        fits = λ p w e. pair_fits new_names old_names S T p w e;
         steps =
             λ p q s w st.
             let e =
-            pair_fits new-names old-names (reordered_sym S) (reordered_sym T) p (inside_same S.count T.count w) st.fits in
-            pair_steps new-names old-names S T p w f g e q s st;
+            pair_fits new_names old_names (reordered_sym S) (reordered_sym T) p (inside_same S.count T.count w) st.fits in
+            pair_steps new_names old_names S T p w f g e q s st;
       }
 
   pub reordered_may_replace :
-      well_formed new new-names ≡ true → well_formed old old-names ≡ true → MayReplace new new-names old old-names
-      → MayReplace new' new-names old' old-names
+      well_formed new new_names ≡ true → well_formed old old_names ≡ true → MayReplace new new_names old old_names
+      → MayReplace new' new_names old' old_names
   reordered_may_replace a b m = may_replace_follows (reordered_follows (formed a) (formed b)) (formed a) (formed b) m
 
 -- where no refusal applies, a reply is a yes or a no
-module _ {new : Table} {new-names : List ℕ} {old : Table} {old-names : List ℕ} {before after : Areas} (N : NoRefusal new new-names old old-names before) (P : Verdict → Type 0) where
+module _ {new : Table} {new_names : List ℕ} {old : Table} {old_names : List ℕ} {before after : Areas} (N : NoRefusal new new_names old old_names before) (P : Verdict → Type 0) where
   by_answer :
-      {v : Verdict} → ((c : ℕ) → SaysYes new new-names old old-names before after c → P (the.Yes c))
-      → ((f : Found) → SaysNo new new-names old old-names before after f → P (the.No f)) → Replaces new new-names old old-names before after v
+      {v : Verdict} → ((c : ℕ) → SaysYes new new_names old old_names before after c → P (the.Yes c))
+      → ((f : Found) → SaysNo new new_names old old_names before after f → P (the.No f)) → Replaces new new_names old old_names before after v
       → P v
   by_answer y n (new_not_formed a e) = absurd (false≢true (sym a ∙ N.new_formed))
   by_answer y n (old_not_formed a b e) = absurd (false≢true (sym b ∙ N.old_formed))
@@ -304,34 +304,34 @@ module _ {new : Table} {new-names : List ℕ} {old : Table} {old-names : List �
   by_answer y n (says_yes {count = c} M Y) = y c Y
   by_answer y n (says_no {found = f} M X) = n f X
 
-module _ {new new' : Table} {new-names : List ℕ} {old old' : Table} {old-names : List ℕ} (S : ReorderedTable new new') (T : ReorderedTable old old') where
+module _ {new new' : Table} {new_names : List ℕ} {old old' : Table} {old_names : List ℕ} (S : ReorderedTable new new') (T : ReorderedTable old old') where
   module _ {before after before' after' : Areas} {v : Verdict} where
     -- a yes stays a yes, with the same count and the same marks
     pub reordered_yes :
-        {c : ℕ} → Replaces new new-names old old-names before after (the.Yes c) → NoRefusal new' new-names old' old-names before'
-        → Replaces new' new-names old' old-names before' after' v
+        {c : ℕ} → Replaces new new_names old old_names before after (the.Yes c) → NoRefusal new' new_names old' old_names before'
+        → Replaces new' new_names old' old_names before' after' v
         → (v ≡ the.Yes c) × (take (pair_count new old) after.marks ≡ take (pair_count new old) after'.marks)
     reordered_yes {c} R N' R' = by_answer N' Same stays (λ f X. absurd (no_may_not_replace (says_no N' X) may)) R'
       where
         Same : Verdict → Type 0
         Same w = (w ≡ the.Yes c) × (take (pair_count new old) after.marks ≡ take (pair_count new old) after'.marks)
 
-        may : MayReplace new' new-names old' old-names
+        may : MayReplace new' new_names old' old_names
         may = reordered_may_replace S T (yes_means R).0.new_formed (yes_means R).0.old_formed (yes-may_replace R)
 
-        stays : (d : ℕ) → SaysYes new' new-names old' old-names before' after' d → Same (the.Yes d)
+        stays : (d : ℕ) → SaysYes new' new_names old' old_names before' after' d → Same (the.Yes d)
         stays d Y' =
             let (N, Y) = yes_means R in
             let F = reordered_follows S T (formed N.new_formed) (formed N.old_formed) in
             let M = no_refusal_follows F N'.new_formed N'.old_formed N in
             let G = reordered_follows (reordered_sym S) (reordered_sym T) (formed N'.new_formed) (formed N'.old_formed) in
-            let (e, o) = one_count new' new-names old' old-names M (yes_follows F G N M Y) N' Y' in
+            let (e, o) = one_count new' new_names old' old_names M (yes_follows F G N M Y) N' Y' in
             (ap the.Yes (sym o), rw (S.count, T.count) e)
 
     -- a no stays a no
     pub reordered_no :
-        {f : Found} → Replaces new new-names old old-names before after (the.No f) → NoRefusal new' new-names old' old-names before'
-        → Replaces new' new-names old' old-names before' after' v → (g : Found) × (v ≡ the.No g)
+        {f : Found} → Replaces new new_names old old_names before after (the.No f) → NoRefusal new' new_names old' old_names before'
+        → Replaces new' new_names old' old_names before' after' v → (g : Found) × (v ≡ the.No g)
     reordered_no R N' R' =
         by_answer N' (λ w. (g : Found) × (w ≡ the.No g))
         (λ c Y.

@@ -25,19 +25,19 @@ refused_one {n} {p} {m} {q} e = parts (ap (λ (r : Made). r.answer) e)
     parts : Refused n p ≡ Refused m q → (n ≡ m) × (p ≡ q)
     parts d = (cc, cc)
 
-module _ {new : Table} {new-names : List ℕ} {old : Table} {old-names : List ℕ} {before after : Areas} where
+module _ {new : Table} {new_names : List ℕ} {old : Table} {old_names : List ℕ} {before after : Areas} where
   pub yes_means :
-      {c : ℕ} → Replaces new new-names old old-names before after (the.Yes c)
-      → NoRefusal new new-names old old-names before × SaysYes new new-names old old-names before after c
+      {c : ℕ} → Replaces new new_names old old_names before after (the.Yes c)
+      → NoRefusal new new_names old old_names before × SaysYes new new_names old old_names before after c
   yes_means (says_yes F Y) = (F, Y)
 
   pub no_means :
-      {f : Found} → Replaces new new-names old old-names before after (the.No f)
-      → NoRefusal new new-names old old-names before × SaysNo new new-names old old-names before after f
+      {f : Found} → Replaces new new_names old old_names before after (the.No f)
+      → NoRefusal new new_names old old_names before × SaysNo new new_names old old_names before after f
   no_means (says_no F X) = (F, X)
 
   -- the steps that are printed are the run
-  pub steps_run : {f : Found} (X : SaysNo new new-names old old-names before after f) → take f.steps after.path ≡ X.run
+  pub steps_run : {f : Found} (X : SaysNo new new_names old old_names before after f) → take f.steps after.path ≡ X.run
   steps_run {f} X =
       let e : f.steps ≡ length X.run = ap (λ (g : Found). g.steps) X.returned in
       rw (e, X.path) (take-append_seam X.run (drop (length X.run) before.path))

@@ -88,7 +88,7 @@ first_named {q} r = one_line r (record { before = no_areas; after = no_areas; an
 fed : (w ks : List ℕ) → (k : List ℕ) × (line w ks ≡ k ++ bytes "\n")
 fed w ks = (w ++ fields ks, refl)
 
-pub line_feed_last : {q : Question} {new old l : List ℕ} {before after : Areas} → Answers q new old before after l → (k : List ℕ) × (l ≡ k ++ bytes "\n")
+pub line_feed_last : {q : Question} {new old : List ℕ} {before after : Areas} {l : List ℕ} → Answers q new old before after l → (k : List ℕ) × (l ≡ k ++ bytes "\n")
 line_feed_last (first_refused {n} {p} a e) = fed (bytes "refused") (n ∷ 1 ∷ p ∷ [])
 line_feed_last (second_refused {n = n} {p = p} a b e) = fed (bytes "refused") (n ∷ 2 ∷ p ∷ [])
 line_feed_last (yes {count = c} a b d) = fed (bytes "yes") (c ∷ [])

@@ -21,19 +21,19 @@ use Rattle.rules.specs.computed.Verdict.{Entry, no_entry, reached, marks_of}
 use Rattle.table.specs.declared.Table.{Table}
 use Rattle.table.specs.declared.answers.Found.{Found}
 
-module _ (new : Table) (new-names : List ℕ) (old : Table) (old-names : List ℕ) where
+module _ (new : Table) (new_names : List ℕ) (old : Table) (old_names : List ℕ) where
   leads_append :
-      (a b : List ℕ) (p m q : Pair) → Leads new new-names old old-names p a m → Leads new new-names old old-names m b q
-      → Leads new new-names old old-names p (a ++ b) q
+      (a b : List ℕ) (p m q : Pair) → Leads new new_names old old_names p a m → Leads new new_names old old_names m b q
+      → Leads new new_names old old_names p (a ++ b) q
   leads_append [] b p m q L M = rw L M
   leads_append (s ∷ a) b p m q L M = (L.0, L.1, leads_append a b L.0 m q L.2 M)
 
-  module _ (new_formed : WellFormed new new-names) (old_formed : WellFormed old old-names) (q : Pair) where
+  module _ (new_formed : WellFormed new new_names) (old_formed : WellFormed old old_names) (q : Pair) where
     -- what is known behind n steps: an entry for each pair on the way, each marked once, with a run of at most n steps to it
     record Gone (n : ℕ) (es : List Entry) : Type 0 where
       counted : count_marks (marks_of new old es) ≡ suc n
       inside : (j : ℕ) → j < length es → Within new old (pair_of es j)
-      known : (j : ℕ) → j < length es → Run new new-names old old-names (run_of es j) (pair_of es j) × (length (run_of es j) ≤ n)
+      known : (j : ℕ) → j < length es → Run new new_names old old_names (run_of es j) (pair_of es j) × (length (run_of es j) ≤ n)
 
     begin : Gone 0 (record { pair = starts new old; run = [] } ∷ [])
     begin =
@@ -47,7 +47,7 @@ module _ (new : Table) (new-names : List ℕ) (old : Table) (old-names : List �
 
     -- one step more leads to a pair that was not gone through
     go_on :
-        (a : List ℕ) (s : ℕ) (m : Pair) (es : List Entry) → Within new old m → Run new new-names old old-names (a ++ (s ∷ [])) m
+        (a : List ℕ) (s : ℕ) (m : Pair) (es : List Entry) → Within new old m → Run new new_names old old_names (a ++ (s ∷ [])) m
         → reached es m ≡ false → Gone (length a) es → Gone (length a + 1) (es ++ (record { pair = m; run = a ++ (s ∷ []) } ∷ []))
     go_on a s m es w R u G =
         let d : Entry = record { pair = m; run = a ++ (s ∷ []) } in
@@ -61,7 +61,7 @@ module _ (new : Table) (new-names : List ℕ) (old : Table) (old-names : List �
               λ j l. by_place j (dec_lt j (length es)) (λ (e : Entry). Within new old e.pair)
               (λ h. rw (same j h) (G.inside j h)) (λ f. rw (last j f l) w);
           known =
-              λ j l. by_place j (dec_lt j (length es)) (λ (e : Entry). Run new new-names old old-names e.run e.pair × (length e.run ≤ length a + 1))
+              λ j l. by_place j (dec_lt j (length es)) (λ (e : Entry). Run new new_names old old_names e.run e.pair × (length e.run ≤ length a + 1))
               (λ h. rw (same j h) ((G.known j h).0, omega (arith, (G.known j h).1)))
               (λ f. rw (last j f l) (R, omega (arith, length-append a (s ∷ []))));
         }
@@ -76,11 +76,11 @@ module _ (new : Table) (new-names : List ℕ) (old : Table) (old-names : List �
 
     -- no run to q has fewer steps than k
     abbrev NoneShorter : ℕ → Type 0
-    NoneShorter k = (c : List ℕ) → Run new new-names old old-names c q → length c < k → ⊥
+    NoneShorter k = (c : List ℕ) → Run new new_names old old_names c q → length c < k → ⊥
 
     goes_on :
-        (b a : List ℕ) (p : Pair) (es : List Entry) → Within new old p → Run new new-names old old-names a p
-        → Leads new new-names old old-names p b q → Gone (length a) es → NoneShorter (length a + length b)
+        (b a : List ℕ) (p : Pair) (es : List Entry) → Within new old p → Run new new_names old old_names a p
+        → Leads new new_names old old_names p b q → Gone (length a) es → NoneShorter (length a + length b)
         → length a + length b < pair_count new old
     goes_on [] a p es w R L G none = omega (arith, G.counted, marks_within new old es)
     goes_on (s ∷ b) a p es w R L G none = by_reached (reached es L.0) refl (goes_on b (a ++ (s ∷ [])) L.0 (es ++ (next ∷ [])) inside run L.2)
@@ -94,7 +94,7 @@ module _ (new : Table) (new-names : List ℕ) (old : Table) (old-names : List �
         inside : Within new old L.0
         inside = step_within new_formed old_formed w L.1
 
-        run : Run new new-names old old-names (a ++ (s ∷ [])) L.0
+        run : Run new new_names old old_names (a ++ (s ∷ [])) L.0
         run = leads_snoc a (starts new old) R L.1
 
         by_reached :
@@ -118,13 +118,13 @@ module _ (new : Table) (new-names : List ℕ) (old : Table) (old-names : List �
 
 -- "the steps": after a no
 pub steps_few :
-    {new : Table} {new-names : List ℕ} {old : Table} {old-names : List ℕ} {before after : Areas} {found : Found}
-    → NoRefusal new new-names old old-names before → (X : SaysNo new new-names old old-names before after found)
+    {new : Table} {new_names : List ℕ} {old : Table} {old_names : List ℕ} {before after : Areas} {found : Found}
+    → NoRefusal new new_names old old_names before → (X : SaysNo new new_names old old_names before after found)
     → length X.run < pair_count new old
-steps_few {new} {new-names} {old} {old-names} F X =
+steps_few {new} {new_names} {old} {old_names} F X =
     let a = formed F.new_formed in
     let b = formed F.old_formed in
     let few =
-    goes_on new new-names old old-names a b X.end X.run [] (starts new old) (record { pair = starts new old; run = [] } ∷ []) (starts_within a b)
-    refl X.runs (begin new new-names old old-names a b X.end) (λ c R l. X.earliest c X.end R X.wrong (inl (omega (arith, l)))) in
+    goes_on new new_names old old_names a b X.end X.run [] (starts new old) (record { pair = starts new old; run = [] } ∷ []) (starts_within a b)
+    refl X.runs (begin new new_names old old_names a b X.end) (λ c R l. X.earliest c X.end R X.wrong (inl (omega (arith, l)))) in
     omega (arith, few)

@@ -78,8 +78,8 @@ module _ {s : List ℕ} where
       go (no l) h = (h.0, omega (arith, h.1))
 
 -- A yes.
-module _ {new : Table} {new-names : List ℕ} {old : Table} {old-names : List ℕ} {before after : Areas} where
-  pub count_small : {count : ℕ} → SaysYes new new-names old old-names before after count → count ≤ pair_count new old
+module _ {new : Table} {new_names : List ℕ} {old : Table} {old_names : List ℕ} {before after : Areas} where
+  pub count_small : {count : ℕ} → SaysYes new new_names old old_names before after count → count ≤ pair_count new old
   count_small Y =
       let N = pair_count new old in
       let m = after.marks in
@@ -150,8 +150,8 @@ nodes_small x {xs} y {ys} fx fy =
     (chooser_small x.kind (label_lacking x xs y ys) (label_lacking y ys x xs) (lacking_small x y xs ys fx.choice.few_labels)
     (lacking_small y x ys xs fy.choice.few_labels))))
 
-module _ {new : Table} {new-names : List ℕ} {old : Table} {old-names : List ℕ} (new_formed : WellFormed new new-names) (old_formed : WellFormed old old-names) where
-  detail_small : (p : Pair) → Within new old p → Small (mismatch_at new new-names old old-names p)
+module _ {new : Table} {new_names : List ℕ} {old : Table} {old_names : List ℕ} (new_formed : WellFormed new new_names) (old_formed : WellFormed old old_names) where
+  detail_small : (p : Pair) → Within new old p → Small (mismatch_at new new_names old old_names p)
   unfolding mismatch_at
   detail_small p w =
       let x = new_formed.each p.new w.new_below in
@@ -160,7 +160,7 @@ module _ {new : Table} {new-names : List ℕ} {old : Table} {old-names : List �
 
   -- its steps,
   leads_small :
-      (r : List ℕ) (p q : Pair) → Within new old p → Leads new new-names old old-names p r q → Each (λ s. s < labels_most) r
+      (r : List ℕ) (p q : Pair) → Within new old p → Leads new new_names old old_names p r q → Each (λ s. s < labels_most) r
   leads_small [] p q w L = tt
   leads_small (s ∷ r) p q w L =
       (step-numbered new_formed old_formed w L.1, leads_small r L.0 q (step_within new_formed old_formed w L.1) L.2)
@@ -173,7 +173,7 @@ pub record SmallFound (f : Found) : Type 0 where
   pub old : f.old < table_nodes_most
   pub turn : f.turn < turns_most
 
-module _ {new : Table} {new-names : List ℕ} {old : Table} {old-names : List ℕ} {before after : Areas} {found : Found} (F : NoRefusal new new-names old old-names before) (X : SaysNo new new-names old old-names before after found) where
+module _ {new : Table} {new_names : List ℕ} {old : Table} {old_names : List ℕ} {before after : Areas} {found : Found} (F : NoRefusal new new_names old old_names before) (X : SaysNo new new_names old old_names before after found) where
   pub found_small : SmallFound found
   found_small =
       let a = formed F.new_formed in
@@ -181,7 +181,7 @@ module _ {new : Table} {new-names : List ℕ} {old : Table} {old-names : List �
       let w = leads_within a b X.run (starts new old) X.end (starts_within a b) X.runs in
       rw X.returned
       (record {
-        reason = reason_small (mismatch_at new new-names old old-names X.end);
+        reason = reason_small (mismatch_at new new_names old old_names X.end);
         detail = detail_small a b X.end w;
         new = omega (arith, w.new_below, a.few_nodes);
         old = omega (arith, w.old_below, b.few_nodes);

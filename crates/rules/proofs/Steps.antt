@@ -135,8 +135,8 @@ turn_after_below false u l = l
 
 -- a step leads to one pair
 pub step_one :
-    {new : Table} {new-names : List ℕ} {old : Table} {old-names : List ℕ} {p : Pair} {s : ℕ} {q r : Pair}
-    → Step new new-names old old-names p s q → Step new new-names old old-names p s r → q ≡ r
+    {new : Table} {new_names : List ℕ} {old : Table} {old_names : List ℕ} {p : Pair} {s : ℕ} {q r : Pair}
+    → Step new new_names old old_names p s q → Step new new_names old old_names p s r → q ≡ r
 step_one S R = let d = S.leads in let e = R.leads in cc
 
 -- what the left node is asked, and the right one, where both the new and the old one are asked their own
@@ -171,16 +171,16 @@ pub nodes_land :
     → landed u (step_of x xs y ys s) ≡ some q → Inside n m q × (s < labels_most)
 nodes_land {n} {m} {u} {x} {xs} {y} {ys} l fx fy e s q d = lands_inside n m s u l (step_of x xs y ys s) (node_lands s fx fy e) q d
 
-module _ {new : Table} {new-names : List ℕ} {old : Table} {old-names : List ℕ} (new_formed : WellFormed new new-names) (old_formed : WellFormed old old-names) where
-  step_lands : (p : Pair) (s : ℕ) (q : Pair) → Within new old p → Step new new-names old old-names p s q → Within new old q × (s < labels_most)
+module _ {new : Table} {new_names : List ℕ} {old : Table} {old_names : List ℕ} (new_formed : WellFormed new new_names) (old_formed : WellFormed old old_names) where
+  step_lands : (p : Pair) (s : ℕ) (q : Pair) → Within new old p → Step new new_names old old_names p s q → Within new old q × (s < labels_most)
   unfolding mismatch_at step_at
   step_lands p s q w S =
       let x = new_formed.each p.new w.new_below in
       let y = old_formed.each p.old w.old_below in
       nodes_land w.turn_below (left_formed p.turn x y) (right_formed p.turn x y) S.fits s q S.leads
 
-  pub step_within : {p : Pair} {s : ℕ} {q : Pair} → Within new old p → Step new new-names old old-names p s q → Within new old q
+  pub step_within : {p : Pair} {s : ℕ} {q : Pair} → Within new old p → Step new new_names old old_names p s q → Within new old q
   step_within {p} {s} {q} w S = (step_lands p s q w S).0
 
-  pub step-numbered : {p : Pair} {s : ℕ} {q : Pair} → Within new old p → Step new new-names old old-names p s q → s < labels_most
+  pub step-numbered : {p : Pair} {s : ℕ} {q : Pair} → Within new old p → Step new new_names old old_names p s q → s < labels_most
   step-numbered {p} {s} {q} w S = (step_lands p s q w S).1

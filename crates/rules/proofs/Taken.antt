@@ -7,7 +7,7 @@ use Prim.Native.Nat.{ℕ}
 use borrow.Author.Tests.{eq-eqb}
 use Rattle.rules.specs.Tokens.{Symbol, reserved_word, one_byte}
 use Rattle.rules.specs.Notation.{Way, into, out, Ty, ended, name, message, choice, Items, no_items, sort, session, Labels, last_label, label, Text, last_definition, definition, sign, sort_position, parted, write_type, write_items, write_labels, write_text}
-use Rattle.rules.proofs.Machine.{Expect, this, a_type, some-items, an_item, more-items, a-label, more-labels, Stack, on, Row, ◌⇒◌, look, step, and_then, run, start}
+use Rattle.rules.proofs.Machine.{Expect, this, a_type, some_items, an_item, more_items, a_label, more_labels, Stack, on, Row, ◌⇒◌, look, step, and_then, run, start}
 use Rattle.table.specs.declared.Sort.{Sort}
 use Rattle.table.specs.declared.Sort.TheVariants.{String, Float, Boolean, Void}
 
@@ -27,12 +27,12 @@ this_on b K k = ap (λ n. and_then n (λ J. run J k)) (this_step b K)
 
 -- where an item may stand: first in its list, or behind a comma
 pub data ItemPlace : Expect → Way → Type 0 where
-  first : {d : Way} → ItemPlace (some-items d) d
+  first : {d : Way} → ItemPlace (some_items d) d
   later : {d : Way} → ItemPlace (an_item d) d
 
 pub sort_on :
     (s : Sort) {e : Expect} {d : Way} → ItemPlace e d → (K : Stack) (k : List Symbol)
-    → run (e ∷ K) (reserved_word (sort_position s) ∷ k) ≡ run (more-items d ∷ K) k
+    → run (e ∷ K) (reserved_word (sort_position s) ∷ k) ≡ run (more_items d ∷ K) k
 unfolding run step look
 sort_on String first K k = refl
 sort_on String later K k = refl
@@ -46,7 +46,7 @@ sort_on Void later K k = refl
 -- an item that is a type
 pub session_on :
     (x : Ty) {e : Expect} {d : Way} → ItemPlace e d → (K : Stack) (k : List Symbol)
-    → run (e ∷ K) (write_type x k) ≡ run (a_type ∷ more-items d ∷ K) (write_type x k)
+    → run (e ∷ K) (write_type x k) ≡ run (a_type ∷ more_items d ∷ K) (write_type x k)
 unfolding run step look
 session_on ended first K k = refl
 session_on ended later K k = refl
@@ -73,26 +73,26 @@ mutual
   type_on (choice out ls) K k = labels_on ls K k
 
   -- behind an opening bracket
-  pub items_on : (xs : Items) (d : Way) (K : Stack) (k : List Symbol) → run (some-items d ∷ K) (write_items d xs k) ≡ run K k
+  pub items_on : (xs : Items) (d : Way) (K : Stack) (k : List Symbol) → run (some_items d ∷ K) (write_items d xs k) ≡ run K k
   items_on no_items into K k = refl
   items_on no_items out K k = refl
   items_on (sort s xs) d K k = sort_on s first K (parted xs (write_items d xs k)) ∙ rest_on xs d K k
   items_on (session x xs) d K k =
-      session_on x first K (parted xs (write_items d xs k)) ∙ type_on x (more-items d ∷ K) (parted xs (write_items d xs k))
+      session_on x first K (parted xs (write_items d xs k)) ∙ type_on x (more_items d ∷ K) (parted xs (write_items d xs k))
       ∙ rest_on xs d K k
 
   -- behind an item
-  pub rest_on : (xs : Items) (d : Way) (K : Stack) (k : List Symbol) → run (more-items d ∷ K) (parted xs (write_items d xs k)) ≡ run K k
+  pub rest_on : (xs : Items) (d : Way) (K : Stack) (k : List Symbol) → run (more_items d ∷ K) (parted xs (write_items d xs k)) ≡ run K k
   rest_on no_items into K k = refl
   rest_on no_items out K k = refl
   rest_on (sort s xs) d K k = sort_on s later K (parted xs (write_items d xs k)) ∙ rest_on xs d K k
   rest_on (session x xs) d K k =
-      session_on x later K (parted xs (write_items d xs k)) ∙ type_on x (more-items d ∷ K) (parted xs (write_items d xs k))
+      session_on x later K (parted xs (write_items d xs k)) ∙ type_on x (more_items d ∷ K) (parted xs (write_items d xs k))
       ∙ rest_on xs d K k
 
-  pub labels_on : (ls : Labels) (K : Stack) (k : List Symbol) → run (a-label ∷ K) (write_labels ls k) ≡ run K k
-  labels_on (last_label w x) K k = type_on x (more-labels ∷ K) (sign "}" ∷ k)
-  labels_on (label w x ls) K k = type_on x (more-labels ∷ K) (sign "|" ∷ write_labels ls k) ∙ labels_on ls K k
+  pub labels_on : (ls : Labels) (K : Stack) (k : List Symbol) → run (a_label ∷ K) (write_labels ls k) ≡ run K k
+  labels_on (last_label w x) K k = type_on x (more_labels ∷ K) (sign "}" ∷ k)
+  labels_on (label w x ls) K k = type_on x (more_labels ∷ K) (sign "|" ∷ write_labels ls k) ∙ labels_on ls K k
 
 -- a definition's first symbol leads to the same from where the first is expected and from where one more may come
 pub text_same_start : (x : Text) → run start (write_text x) ≡ run [] (write_text x)

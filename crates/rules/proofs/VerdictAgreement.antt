@@ -33,10 +33,10 @@ use Rattle.table.specs.declared.Table.{Table}
 use Rattle.table.specs.declared.answers.Mismatch.TheVariants as mismatch
 use Rattle.table.specs.declared.answers.Verdict.{Verdict}
 
-module _ (new : Table) (new-names : List ℕ) (old : Table) (old-names : List ℕ) (new_formed : WellFormed new new-names) (old_formed : WellFormed old old-names) where
+module _ (new : Table) (new_names : List ℕ) (old : Table) (old_names : List ℕ) (new_formed : WellFormed new new_names) (old_formed : WellFormed old old_names) where
   -- the search stands at entry h, of which the steps below k were taken
   record Standing (es : List Entry) (g h k : ℕ) : Type 0 where
-    searched : Searched new new-names old old-names (pair_of es) (run_of es) (length es) g h k
+    searched : Searched new new_names old old_names (pair_of es) (run_of es) (length es) g h k
     counted : count_marks (marks_of new old es) ≡ length es
 
   -- and entry h, which is e, is being expanded
@@ -52,7 +52,7 @@ module _ (new : Table) (new-names : List ℕ) (old : Table) (old-names : List �
 
   skips :
       (e : Entry) (h k : ℕ) (es : List Entry) → Expanding e h es k
-      → ((q : Pair) → step_at new new-names old old-names e.pair k ≡ some q → (j : ℕ) × (j < length es) × (pair_of es j ≡ q))
+      → ((q : Pair) → step_at new new_names old old_names e.pair k ≡ some q → (j : ℕ) × (j < length es) × (pair_of es j ≡ q))
       → Expanding e h es (k + 1)
   skips e h k es E f =
       record {
@@ -60,7 +60,7 @@ module _ (new : Table) (new-names : List ℕ) (old : Table) (old-names : List �
             record {
               searched =
                   search_skips E.standing.searched E.there
-                  (λ q S. f q (ap (λ (d : Entry). step_at new new-names old old-names d.pair k) (sym E.this) ∙ S.leads));
+                  (λ q S. f q (ap (λ (d : Entry). step_at new new_names old old_names d.pair k) (sym E.this) ∙ S.leads));
               counted = E.standing.counted;
             };
         there = E.there;
@@ -68,13 +68,13 @@ module _ (new : Table) (new-names : List ℕ) (old : Table) (old-names : List �
       }
 
   pushes :
-      (e : Entry) (h k : ℕ) (es : List Entry) (q : Pair) → Expanding e h es k → step_at new new-names old old-names e.pair k ≡ some q
+      (e : Entry) (h k : ℕ) (es : List Entry) (q : Pair) → Expanding e h es k → step_at new new_names old old_names e.pair k ≡ some q
       → reached es q ≡ false → Expanding e h (es ++ (entry_behind e k q ∷ [])) (k + 1)
   pushes e h k es q E s u =
       let I = E.standing.searched in
       let d = entry_behind e k q in
-      let S : Step new new-names old old-names (pair_of es h) k q =
-      record { fits = I.good h (omega arith); leads = ap (λ (x : Entry). step_at new new-names old old-names x.pair k) E.this ∙ s } in
+      let S : Step new new_names old old_names (pair_of es h) k q =
+      record { fits = I.good h (omega arith); leads = ap (λ (x : Entry). step_at new new_names old old_names x.pair k) E.this ∙ s } in
       let n : length (es ++ (d ∷ [])) ≡ length es + 1 = length-append es (d ∷ []) in
       let same : (j : ℕ) → j < length es → get_or (es ++ (d ∷ [])) j no_entry ≡ get_or es j no_entry = λ j l. get_or-append es (d ∷ []) no_entry j l in
       let last : get_or (es ++ (d ∷ [])) (length es) no_entry ≡ d = get_or-append_seam es d [] no_entry in
@@ -83,7 +83,7 @@ module _ (new : Table) (new-names : List ℕ) (old : Table) (old-names : List �
         standing =
             record {
               searched =
-                  subst (λ (m : ℕ). Searched new new-names old old-names (pair_of (es ++ (d ∷ []))) (run_of (es ++ (d ∷ []))) m (h + 1) h (k + 1))
+                  subst (λ (m : ℕ). Searched new new_names old old_names (pair_of (es ++ (d ∷ []))) (run_of (es ++ (d ∷ []))) m (h + 1) h (k + 1))
                   (sym n)
                   (search_pushes (λ j l. ap (λ (x : Entry). x.pair) (same j l)) (λ j l. ap (λ (x : Entry). x.run) (same j l)) I
                   (omega (arith, E.there)) E.there S (ap (λ (x : Entry). x.pair) last)
@@ -96,12 +96,12 @@ module _ (new : Table) (new-names : List ℕ) (old : Table) (old-names : List �
         this = same h E.there ∙ E.this;
       }
 
-  visits : (e : Entry) (h k : ℕ) (es : List Entry) → Expanding e h es k → Expanding e h (visit new new-names old old-names e k es) (k + 1)
+  visits : (e : Entry) (h k : ℕ) (es : List Entry) → Expanding e h es k → Expanding e h (visit new new_names old old_names e k es) (k + 1)
   unfolding visit
-  visits e h k es E = by_step (step_at new new-names old old-names e.pair k) refl
+  visits e h k es E = by_step (step_at new new_names old old_names e.pair k) refl
     where
       by_entry :
-          (q : Pair) → step_at new new-names old old-names e.pair k ≡ some q → (b : Bool) → reached es q ≡ b
+          (q : Pair) → step_at new new_names old old_names e.pair k ≡ some q → (b : Bool) → reached es q ≡ b
           → Expanding e h (elim b as (λ z. List Entry) [ true ↦ es | false ↦ es ++ (entry_behind e k q ∷ []) ]) (k + 1)
       by_entry q s true r =
           skips e h k es E
@@ -109,7 +109,7 @@ module _ (new : Table) (new-names : List ℕ) (old : Table) (old-names : List �
       by_entry q s false r = pushes e h k es q E s r
 
       by_step :
-          (o : Option Pair) → step_at new new-names old old-names e.pair k ≡ o
+          (o : Option Pair) → step_at new new_names old old_names e.pair k ≡ o
           → Expanding e h
           (elim o as (λ z. List Entry) [
             | none ↦ es
@@ -120,29 +120,29 @@ module _ (new : Table) (new-names : List ℕ) (old : Table) (old-names : List �
       by_step (some q) s = by_entry q s (reached es q) refl
 
   expands :
-      (e : Entry) (h n k : ℕ) (es : List Entry) → Expanding e h es k → Expanding e h (expand new new-names old old-names e n k es) (k + n)
+      (e : Entry) (h n k : ℕ) (es : List Entry) → Expanding e h es k → Expanding e h (expand new new_names old old_names e n k es) (k + n)
   unfolding expand
   expands e h zero k es E = let z : k ≡ k + 0 = omega arith in subst (Expanding e h es) z E
   expands e h (suc n) k es E =
       let z : suc k + n ≡ k + suc n = omega arith in
-      subst (Expanding e h (expand new new-names old old-names e (suc n) k es)) z
-      (expands e h n (suc k) (visit new new-names old old-names e k es) (rw (← add-one k) (visits e h k es E)))
+      subst (Expanding e h (expand new new_names old old_names e (suc n) k es)) z
+      (expands e h n (suc k) (visit new new_names old old_names e k es) (rw (← add-one k) (visits e h k es E)))
 
   -- what the search comes to
   abbrev Comes : Outcome → Type 0
   Comes (all_fit es) =
-      Searched new new-names old old-names (pair_of es) (run_of es) (length es) (length es) (length es) 0
+      Searched new new_names old old_names (pair_of es) (run_of es) (length es) (length es) (length es) 0
   Comes (mismatched e) =
-      Run new new-names old old-names e.run e.pair × IsMismatch new new-names old old-names e.pair
-      × ((r : List ℕ) (q : Pair) → Run new new-names old old-names r q → IsMismatch new new-names old old-names q → Before r e.run → ⊥)
+      Run new new_names old old_names e.run e.pair × IsMismatch new new_names old old_names e.pair
+      × ((r : List ℕ) (q : Pair) → Run new new_names old old_names r q → IsMismatch new new_names old old_names q → Before r e.run → ⊥)
   Comes unfinished = ⊥
 
   -- the entries, entry h expanded
   abbrev next : List Entry → ℕ → List Entry
-  next es h = expand new new-names old old-names (get_or es h no_entry) labels_most zero es
+  next es h = expand new new_names old old_names (get_or es h no_entry) labels_most zero es
 
   goes_on :
-      (es : List Entry) (h : ℕ) → Standing es h h 0 → h < length es → mismatch_at new new-names old old-names (pair_of es h) ≡ mismatch.Nothing
+      (es : List Entry) (h : ℕ) → Standing es h h 0 → h < length es → mismatch_at new new_names old old_names (pair_of es h) ≡ mismatch.Nothing
       → Standing (next es h) (suc h) (suc h) 0
   goes_on es h S l f =
       let E =
@@ -154,7 +154,7 @@ module _ (new : Table) (new-names : List ℕ) (old : Table) (old-names : List �
         counted = E.standing.counted;
       }
 
-  explores : (n : ℕ) (es : List Entry) (h : ℕ) → Standing es h h 0 → pair_count new old < n + h → Comes (explore new new-names old old-names n es h)
+  explores : (n : ℕ) (es : List Entry) (h : ℕ) → Standing es h h 0 → pair_count new old < n + h → Comes (explore new new_names old old_names n es h)
   unfolding explore
   explores zero es h S l = omega (arith, S.searched.within, S.counted, marks_within new old es)
   explores (suc n) es h S l =
@@ -162,28 +162,28 @@ module _ (new : Table) (new-names : List ℕ) (old : Table) (old-names : List �
       (λ T. explores n (next es h) (suc h) T (omega arith))
     where
       by_fit :
-          (b : Bool) → fits (mismatch_at new new-names old old-names (pair_of es h)) ≡ b → h < length es
-          → (Standing (next es h) (suc h) (suc h) 0 → Comes (explore new new-names old old-names n (next es h) (suc h)))
-          → Comes (elim b as (λ z. Outcome) [ false ↦ mismatched (get_or es h no_entry) | true ↦ explore new new-names old old-names n (next es h) (suc h) ])
+          (b : Bool) → fits (mismatch_at new new_names old old_names (pair_of es h)) ≡ b → h < length es
+          → (Standing (next es h) (suc h) (suc h) 0 → Comes (explore new new_names old old_names n (next es h) (suc h)))
+          → Comes (elim b as (λ z. Outcome) [ false ↦ mismatched (get_or es h no_entry) | true ↦ explore new new_names old old_names n (next es h) (suc h) ])
       by_fit true f l again = again (goes_on es h S l (fits_nothing _ f))
       by_fit false f l again = (S.searched.runs h l, fits_not _ f, search_earliest S.searched l)
 
       by_end :
-          (b : Bool) → ltb h (length es) ≡ b → (Standing (next es h) (suc h) (suc h) 0 → Comes (explore new new-names old old-names n (next es h) (suc h)))
+          (b : Bool) → ltb h (length es) ≡ b → (Standing (next es h) (suc h) (suc h) 0 → Comes (explore new new_names old old_names n (next es h) (suc h)))
           → Comes (elim b as (λ z. Outcome) [
             | false ↦ all_fit es
             | true ↦
-                elim (fits (mismatch_at new new-names old old-names (pair_of es h))) as (λ z. Outcome) [
+                elim (fits (mismatch_at new new_names old old_names (pair_of es h))) as (λ z. Outcome) [
                   | false ↦ mismatched (get_or es h no_entry)
-                  | true ↦ explore new new-names old old-names n (next es h) (suc h)
+                  | true ↦ explore new new_names old old_names n (next es h) (suc h)
                 ]
           ])
       by_end true t again = by_fit _ refl (ltb-true _ _ t) again
       by_end false t again =
           let z : h ≡ length es = omega (arith, ltb-false h (length es) t, S.searched.within) in
-          subst (λ (m : ℕ). Searched new new-names old old-names (pair_of es) (run_of es) (length es) m m 0) z S.searched
+          subst (λ (m : ℕ). Searched new new_names old old_names (pair_of es) (run_of es) (length es) m m 0) z S.searched
 
-  outcome_comes : Comes (outcome new new-names old old-names)
+  outcome_comes : Comes (outcome new new_names old old_names)
   unfolding outcome
   outcome_comes =
       explores (suc (pair_count new old)) (begin ∷ []) zero
@@ -197,11 +197,11 @@ module _ (new : Table) (new-names : List ℕ) (old : Table) (old-names : List �
       begin = record { pair = starts new old; run = [] }
 
   -- what it comes to is settled as declared
-  module _ (before : Areas) (F : NoRefusal new new-names old old-names before) where
+  module _ (before : Areas) (F : NoRefusal new new_names old old_names before) where
     settles :
         (o : Outcome) → Comes o
-        → Replaces new new-names old old-names before (settle new new-names old old-names before o).areas
-        (settle new new-names old old-names before o).answer
+        → Replaces new new_names old old_names before (settle new new_names old old_names before o).areas
+        (settle new new_names old old_names before o).answer
     unfolding settle
     settles (all_fit es) I =
         let rest = drop (pair_count new old) before.marks in
@@ -241,30 +241,30 @@ module _ (new : Table) (new-names : List ℕ) (old : Table) (old-names : List �
     settles unfinished c = absurd c
 
 -- the twin's reply, refusal by refusal
-module _ (new : Table) (new-names : List ℕ) (old : Table) (old-names : List ℕ) (before : Areas) where
+module _ (new : Table) (new_names : List ℕ) (old : Table) (old_names : List ℕ) (before : Areas) where
   abbrev Right : Reply → Type 0
-  Right r = Replaces new new-names old old-names before r.areas r.answer
+  Right r = Replaces new new_names old old_names before r.areas r.answer
 
   abbrev refusing : ℕ → ℕ → Reply
-  refusing = refuse new new-names old old-names before
+  refusing = refuse new new_names old old_names before
 
-  pub verdict_replaces : Right (verdict new new-names old old-names before)
+  pub verdict_replaces : Right (verdict new new_names old old_names before)
   unfolding verdict
-  verdict_replaces = by_new (well_formed new new-names) refl
+  verdict_replaces = by_new (well_formed new new_names) refl
     where
-      is : {r : Reply} → verdict new new-names old old-names before ≡ r → Right r → Right (verdict new new-names old old-names before)
+      is : {r : Reply} → verdict new new_names old old_names before ≡ r → Right r → Right (verdict new new_names old old_names before)
       is e h = subst Right (sym e) h
 
       by_scratch :
-          (b : Bool) → ltb (length before.scratch) (scratch_size new old) ≡ b → well_formed new new-names ≡ true
-          → well_formed old old-names ≡ true → ltb (length before.marks) (pair_count new old) ≡ false
-          → ltb (length before.path) (pair_count new old) ≡ false → Right (verdict new new-names old old-names before)
+          (b : Bool) → ltb (length before.scratch) (scratch_size new old) ≡ b → well_formed new new_names ≡ true
+          → well_formed old old_names ≡ true → ltb (length before.marks) (pair_count new old) ≡ false
+          → ltb (length before.path) (pair_count new old) ≡ false → Right (verdict new new_names old old_names before)
       by_scratch true s n o m p =
           is {r = refusing area_too_short 3} (rw (verdict, n, o, m, p, s) refl)
           (scratch_short n o (ltb-false _ _ m) (ltb-false _ _ p) (ltb-true _ _ s) refl)
       by_scratch false s n o m p =
-          is {r = settle new new-names old old-names before (outcome new new-names old old-names)} (rw (verdict, n, o, m, p, s) refl)
-          (settles new new-names old old-names (formed n) (formed o) before
+          is {r = settle new new_names old old_names before (outcome new new_names old old_names)} (rw (verdict, n, o, m, p, s) refl)
+          (settles new new_names old old_names (formed n) (formed o) before
           (record {
             new_formed = n;
             old_formed = o;
@@ -272,37 +272,37 @@ module _ (new : Table) (new-names : List ℕ) (old : Table) (old-names : List �
             path_long = ltb-false _ _ p;
             scratch_long = ltb-false _ _ s;
           })
-          (outcome new new-names old old-names) (outcome_comes new new-names old old-names (formed n) (formed o)))
+          (outcome new new_names old old_names) (outcome_comes new new_names old old_names (formed n) (formed o)))
 
       by_path :
-          (b : Bool) → ltb (length before.path) (pair_count new old) ≡ b → well_formed new new-names ≡ true
-          → well_formed old old-names ≡ true → ltb (length before.marks) (pair_count new old) ≡ false
-          → Right (verdict new new-names old old-names before)
+          (b : Bool) → ltb (length before.path) (pair_count new old) ≡ b → well_formed new new_names ≡ true
+          → well_formed old old_names ≡ true → ltb (length before.marks) (pair_count new old) ≡ false
+          → Right (verdict new new_names old old_names before)
       by_path true p n o m =
           is {r = refusing area_too_short 2} (rw (verdict, n, o, m, p) refl) (path_short n o (ltb-false _ _ m) (ltb-true _ _ p) refl)
       by_path false p n o m = by_scratch _ refl n o m p
 
       by_marks :
-          (b : Bool) → ltb (length before.marks) (pair_count new old) ≡ b → well_formed new new-names ≡ true
-          → well_formed old old-names ≡ true → Right (verdict new new-names old old-names before)
+          (b : Bool) → ltb (length before.marks) (pair_count new old) ≡ b → well_formed new new_names ≡ true
+          → well_formed old old_names ≡ true → Right (verdict new new_names old old_names before)
       by_marks true m n o = is {r = refusing area_too_short 1} (rw (verdict, n, o, m) refl) (marks_short n o (ltb-true _ _ m) refl)
       by_marks false m n o = by_path _ refl n o m
 
-      by_old : (b : Bool) → well_formed old old-names ≡ b → well_formed new new-names ≡ true → Right (verdict new new-names old old-names before)
+      by_old : (b : Bool) → well_formed old old_names ≡ b → well_formed new new_names ≡ true → Right (verdict new new_names old old_names before)
       by_old false o n = is {r = refusing not_well_formed 2} (rw (verdict, n, o) refl) (old_not_formed n o refl)
       by_old true o n = by_marks _ refl n o
 
-      by_new : (b : Bool) → well_formed new new-names ≡ b → Right (verdict new new-names old old-names before)
+      by_new : (b : Bool) → well_formed new new_names ≡ b → Right (verdict new new_names old old_names before)
       by_new false n = is {r = refusing not_well_formed 1} (rw (verdict, n) refl) (new_not_formed n refl)
       by_new true n = by_old _ refl n
 
   -- So a reply exists, and it is one.
   pub verdict_exactly :
       (after : Areas) (v : Verdict)
-      → Replaces new new-names old old-names before after v ↔ (record { answer = v; areas = after } ≡ verdict new new-names old old-names before)
+      → Replaces new new_names old old_names before after v ↔ (record { answer = v; areas = after } ≡ verdict new new_names old old_names before)
   verdict_exactly after v = (
     λ r.
-        let o = one_verdict new new-names old old-names before after (verdict new new-names old old-names before).areas r verdict_replaces in
+        let o = one_verdict new new_names old old_names before after (verdict new new_names old old_names before).areas r verdict_replaces in
         λ i. record { answer = o.1 i; areas = o.0 i },
     λ e. subst Right (sym e) verdict_replaces,
   )

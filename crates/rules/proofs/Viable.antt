@@ -15,7 +15,7 @@ use Rattle.rules.specs.Tokens.{Token, Symbol, word, reserved_word, one_byte, sym
 use Rattle.rules.specs.Notation.{Way, into, out, Ty, ended, name, message, choice, Items, no_items, sort, session, Labels, last_label, label, Text, last_definition, definition, sign, sort_position, end_position, closing, parted, write_type, write_items, write_labels, write_text}
 use Rattle.rules.specs.Refusals.{Could}
 use Rattle.rules.proofs.Computes.{computes}
-use Rattle.rules.proofs.Machine.{Expect, this, a_type, some-items, an_item, more-items, a-label, more-labels, a_definition, Stack, Next, on, stuck, Row, ◌⇒◌, look, close_byte, in_message, in_choice, in_definition, type_rows, byte_rows, item_rows, reserved_rows, on_word, step, and_then, run, start}
+use Rattle.rules.proofs.Machine.{Expect, this, a_type, some_items, an_item, more_items, a_label, more_labels, a_definition, Stack, Next, on, stuck, Row, ◌⇒◌, look, close_byte, in_message, in_choice, in_definition, type_rows, byte_rows, item_rows, reserved_rows, on_word, step, and_then, run, start}
 use Rattle.rules.proofs.Taken.{this_on, text_on}
 use Rattle.rules.proofs.TokenLists.{byte_token, tokens-blank, tokens_other, text_cut}
 use Rattle.table.specs.declared.Sort.{Sort}
@@ -25,11 +25,11 @@ use Rattle.table.specs.declared.Sort.TheVariants.{String, Float, Boolean, Void}
 abbrev Means : Expect → List Symbol → List Symbol → Type 0
 Means (this b) ts k = ts ≡ one_byte b ∷ k
 Means a_type ts k = (x : Ty) × (ts ≡ write_type x k)
-Means (some-items d) ts k = (xs : Items) × (ts ≡ write_items d xs k)
+Means (some_items d) ts k = (xs : Items) × (ts ≡ write_items d xs k)
 Means (an_item d) ts k = (xs : Items) × (sign "," ∷ ts ≡ parted xs (write_items d xs k))
-Means (more-items d) ts k = (xs : Items) × (ts ≡ parted xs (write_items d xs k))
-Means a-label ts k = (ls : Labels) × (ts ≡ write_labels ls k)
-Means more-labels ts k = (ts ≡ sign "}" ∷ k) ⊎ ((ls : Labels) × (ts ≡ sign "|" ∷ write_labels ls k))
+Means (more_items d) ts k = (xs : Items) × (ts ≡ parted xs (write_items d xs k))
+Means a_label ts k = (ls : Labels) × (ts ≡ write_labels ls k)
+Means more_labels ts k = (ts ≡ sign "}" ∷ k) ⊎ ((ls : Labels) × (ts ≡ sign "|" ∷ write_labels ls k))
 Means a_definition ts k = (w : Token) × (x : Ty) × (ts ≡ word w ∷ sign "=" ∷ write_type x (sign "." ∷ k))
 
 -- that ts is all that a stack expects, and what may come where nothing is expected
@@ -89,18 +89,18 @@ all_map f (◌&◌ {b} {K} p a) = f b K p & all_map f a
 
 -- where an item may stand, first or later
 module _ (d : Way) (K : Stack) where
-  item_session : (ts : List Symbol) → Completes (a_type ∷ more-items d ∷ K) ts → Completes (an_item d ∷ K) ts
+  item_session : (ts : List Symbol) → Completes (a_type ∷ more_items d ∷ K) ts → Completes (an_item d ∷ K) ts
   item_session ts (k₁, (x, p), (k₂, (xs, q), c)) = (k₂, (session x xs, cc), c)
 
-  item_first : (ts : List Symbol) → Completes (an_item d ∷ K) ts → Completes (some-items d ∷ K) ts
+  item_first : (ts : List Symbol) → Completes (an_item d ∷ K) ts → Completes (some_items d ∷ K) ts
   item_first ts (k, (xs, p), c) = (k, (xs, comma_first xs d ts k p), c)
 
-  a_sort : (s : Sort) → Right reserved_word (an_item d) K (sort_position s) (more-items d ∷ K)
+  a_sort : (s : Sort) → Right reserved_word (an_item d) K (sort_position s) (more_items d ∷ K)
   a_sort s ts (k, (xs, q), c) = (k, (sort s xs, cc), c)
 
-  item_right : All (Right reserved_word (an_item d) K) (item_rows (more-items d ∷ K))
+  item_right : All (Right reserved_word (an_item d) K) (item_rows (more_items d ∷ K))
   item_right =
-      ◌&◌ {b = end_position} {K = more-items d ∷ K} (λ ts (k, (xs, q), c). (k, (session ended xs, cc), c))
+      ◌&◌ {b = end_position} {K = more_items d ∷ K} (λ ts (k, (xs, q), c). (k, (session ended xs, cc), c))
       (a_sort String & a_sort Float & a_sort Boolean & a_sort Void & none)
 
 closing_byte : (d : Way) → one_byte (close_byte d) ≡ closing d
@@ -110,26 +110,26 @@ closing_byte out = refl
 bytes_right : (e : Expect) (K : Stack) → All (Right one_byte e K) (byte_rows e K)
 bytes_right (this b) K = (λ ts c. (ts, refl, c)) & none
 bytes_right a_type K = type_right K (λ b J r. r) none
-bytes_right (some-items d) K =
-    type_right (more-items d ∷ K) (λ b J r ts c. item_first d K (one_byte b ∷ ts) (item_session d K (one_byte b ∷ ts) (r ts c)))
+bytes_right (some_items d) K =
+    type_right (more_items d ∷ K) (λ b J r ts c. item_first d K (one_byte b ∷ ts) (item_session d K (one_byte b ∷ ts) (r ts c)))
     (◌&◌ {b = close_byte d} {K = K} (λ ts c. (ts, (no_items, cc (closing_byte d)), c)) none)
-bytes_right (an_item d) K = type_right (more-items d ∷ K) (λ b J r ts c. item_session d K (one_byte b ∷ ts) (r ts c)) none
-bytes_right (more-items d) K =
+bytes_right (an_item d) K = type_right (more_items d ∷ K) (λ b J r ts c. item_session d K (one_byte b ∷ ts) (r ts c)) none
+bytes_right (more_items d) K =
     ◌&◌ {b = code ","} {K = an_item d ∷ K} (λ ts c. c)
     (◌&◌ {b = close_byte d} {K = K} (λ ts c. (ts, (no_items, cc (closing_byte d)), c)) none)
-bytes_right a-label K = none
-bytes_right more-labels K =
-    ◌&◌ {b = code "|"} {K = a-label ∷ K} (λ ts (k, (ls, p), c). (k, inr (ls, cc), c)) ((λ ts c. (ts, inl refl, c)) & none)
+bytes_right a_label K = none
+bytes_right more_labels K =
+    ◌&◌ {b = code "|"} {K = a_label ∷ K} (λ ts (k, (ls, p), c). (k, inr (ls, cc), c)) ((λ ts c. (ts, inl refl, c)) & none)
 bytes_right a_definition K = none
 
 reserved_right : (e : Expect) (K : Stack) → All (Right reserved_word e K) (reserved_rows e K)
 reserved_right (this b) K = none
 reserved_right a_type K = (λ ts c. (ts, (ended, refl), c)) & none
-reserved_right (some-items d) K = all_map (λ i J r ts c. item_first d K (reserved_word i ∷ ts) (r ts c)) (item_right d K)
+reserved_right (some_items d) K = all_map (λ i J r ts c. item_first d K (reserved_word i ∷ ts) (r ts c)) (item_right d K)
 reserved_right (an_item d) K = item_right d K
-reserved_right (more-items d) K = none
-reserved_right a-label K = none
-reserved_right more-labels K = none
+reserved_right (more_items d) K = none
+reserved_right a_label K = none
+reserved_right more_labels K = none
 reserved_right a_definition K = none
 
 -- what holds of where a step leads, if it leads on
@@ -138,19 +138,19 @@ Then (on K) P = P K
 Then stuck P = Unit {0}
 
 one_label :
-    (w : Token) (x : Ty) (ts k : List Symbol) → ts ≡ sign ":" ∷ write_type x k → (m : List Symbol) → Means more-labels k m
-    → Means a-label (word w ∷ ts) m
+    (w : Token) (x : Ty) (ts k : List Symbol) → ts ≡ sign ":" ∷ write_type x k → (m : List Symbol) → Means more_labels k m
+    → Means a_label (word w ∷ ts) m
 one_label w x ts k p m (inl q) = (last_label w x, cc)
 one_label w x ts k p m (inr (ls, q)) = (label w x ls, cc)
 
 word_right : (e : Expect) (K : Stack) (w : Token) → Then (on_word e K) (λ J. (ts : List Symbol) → Completes J ts → Completes (e ∷ K) (word w ∷ ts))
 word_right (this b) K w = tt
 word_right a_type K w = λ ts c. (ts, (name w, refl), c)
-word_right (some-items d) K w = λ ts (k, (xs, p), c). (k, (session (name w) xs, cc), c)
+word_right (some_items d) K w = λ ts (k, (xs, p), c). (k, (session (name w) xs, cc), c)
 word_right (an_item d) K w = λ ts (k, (xs, p), c). (k, (session (name w) xs, cc), c)
-word_right (more-items d) K w = tt
-word_right a-label K w = λ ts (k₁, p, (k₂, (x, q), (k₃, m, c))). (k₃, one_label w x ts k₂ (cc) k₃ m, c)
-word_right more-labels K w = tt
+word_right (more_items d) K w = tt
+word_right a_label K w = λ ts (k₁, p, (k₂, (x, q), (k₃, m, c))). (k₃, one_label w x ts k₂ (cc) k₃ m, c)
+word_right more_labels K w = tt
 word_right a_definition K w = λ ts (k₁, p, (k₂, (x, q), (k₃, r, c))). (k₃, (w, x, cc), c)
 
 -- a definition, and those behind it
@@ -218,11 +218,11 @@ text_is ts x p = rw (← p) (text_on x)
 abbrev Own : Expect → Type 0
 Own (this b) = (blank b ≡ false) × (letter b ≡ false)
 Own a_type = Unit {0}
-Own (some-items d) = Unit {0}
+Own (some_items d) = Unit {0}
 Own (an_item d) = Unit {0}
-Own (more-items d) = Unit {0}
-Own a-label = Unit {0}
-Own more-labels = Unit {0}
+Own (more_items d) = Unit {0}
+Own a_label = Unit {0}
+Own more_labels = Unit {0}
 Own a_definition = Unit {0}
 
 abbrev Plain : Stack → Type 0
@@ -251,11 +251,11 @@ type_plain K rs p a = message_plain into K p & message_plain out K p & choice_pl
 bytes-plain : (e : Expect) (K : Stack) → Plain K → All PlainRow (byte_rows e K)
 bytes-plain (this b) K p = p & none
 bytes-plain a_type K p = type_plain K [] p none
-bytes-plain (some-items d) K p = type_plain (more-items d ∷ K) _ (tt, p) (p & none)
-bytes-plain (an_item d) K p = type_plain (more-items d ∷ K) [] (tt, p) none
-bytes-plain (more-items d) K p = ◌&◌ {b = code ","} {K = an_item d ∷ K} (tt, p) (p & none)
-bytes-plain a-label K p = none
-bytes-plain more-labels K p = ◌&◌ {b = code "|"} {K = a-label ∷ K} (tt, p) (p & none)
+bytes-plain (some_items d) K p = type_plain (more_items d ∷ K) _ (tt, p) (p & none)
+bytes-plain (an_item d) K p = type_plain (more_items d ∷ K) [] (tt, p) none
+bytes-plain (more_items d) K p = ◌&◌ {b = code ","} {K = an_item d ∷ K} (tt, p) (p & none)
+bytes-plain a_label K p = none
+bytes-plain more_labels K p = ◌&◌ {b = code "|"} {K = a_label ∷ K} (tt, p) (p & none)
 bytes-plain a_definition K p = none
 
 item_plain : (K : Stack) → Plain K → All PlainRow (item_rows K)
@@ -264,22 +264,22 @@ item_plain K p = p & p & p & p & p & none
 reserved-plain : (e : Expect) (K : Stack) → Plain K → All PlainRow (reserved_rows e K)
 reserved-plain (this b) K p = none
 reserved-plain a_type K p = p & none
-reserved-plain (some-items d) K p = item_plain (more-items d ∷ K) (tt, p)
-reserved-plain (an_item d) K p = item_plain (more-items d ∷ K) (tt, p)
-reserved-plain (more-items d) K p = none
-reserved-plain a-label K p = none
-reserved-plain more-labels K p = none
+reserved-plain (some_items d) K p = item_plain (more_items d ∷ K) (tt, p)
+reserved-plain (an_item d) K p = item_plain (more_items d ∷ K) (tt, p)
+reserved-plain (more_items d) K p = none
+reserved-plain a_label K p = none
+reserved-plain more_labels K p = none
 reserved-plain a_definition K p = none
 
 word_plain : (e : Expect) (K : Stack) → Plain K → Then (on_word e K) Plain
 unfolding blank letter
 word_plain (this b) K p = tt
 word_plain a_type K p = p
-word_plain (some-items d) K p = (tt, p)
+word_plain (some_items d) K p = (tt, p)
 word_plain (an_item d) K p = (tt, p)
-word_plain (more-items d) K p = tt
-word_plain a-label K p = ((refl, refl), (tt, (tt, p)))
-word_plain more-labels K p = tt
+word_plain (more_items d) K p = tt
+word_plain a_label K p = ((refl, refl), (tt, (tt, p)))
+word_plain more_labels K p = tt
 word_plain a_definition K p = definition-plain K p
 
 step-plain : (K : Stack) (t : Symbol) (J : Stack) → Plain K → step K t ≡ on J → Plain J
@@ -304,14 +304,14 @@ run_plain (t ∷ ts) K J p h = go (λ L q. run_plain ts L J q) (step K t) refl
 abbrev shut : Expect → List ℕ
 shut (this b) = b ∷ 32 ∷ []
 shut a_type = bytes "end "
-shut (some-items into) = bytes ") "
-shut (some-items out) = bytes "] "
+shut (some_items into) = bytes ") "
+shut (some_items out) = bytes "] "
 shut (an_item into) = bytes "void ) "
 shut (an_item out) = bytes "void ] "
-shut (more-items into) = bytes ") "
-shut (more-items out) = bytes "] "
-shut a-label = bytes "a : end } "
-shut more-labels = bytes "} "
+shut (more_items into) = bytes ") "
+shut (more_items out) = bytes "] "
+shut a_label = bytes "a : end } "
+shut more_labels = bytes "} "
 shut a_definition = bytes "A = end . "
 
 -- the place behind these bytes
@@ -343,14 +343,14 @@ shut_on :
 unfolding run step look computes
 shut_on (this b) K p at k = this_shut at b K k p.0 p.1
 shut_on a_type K p at k = refl
-shut_on (some-items into) K p at k = refl
-shut_on (some-items out) K p at k = refl
+shut_on (some_items into) K p at k = refl
+shut_on (some_items out) K p at k = refl
 shut_on (an_item into) K p at k = refl
 shut_on (an_item out) K p at k = refl
-shut_on (more-items into) K p at k = refl
-shut_on (more-items out) K p at k = refl
-shut_on a-label K p at k = refl
-shut_on more-labels K p at k = refl
+shut_on (more_items into) K p at k = refl
+shut_on (more_items out) K p at k = refl
+shut_on a_label K p at k = refl
+shut_on more_labels K p at k = refl
 shut_on a_definition K p at k = refl
 
 -- .. and all that a stack expects

@@ -56,19 +56,19 @@ abbrev pub against : Question → Table → Table
 against may_replace old = old
 against is_compatible other = dual other
 
-module _ (q : Question) (new-text old-text : List ℕ) (before after : Areas) where
+module _ (q : Question) (new_text old_text : List ℕ) (before after : Areas) where
   -- The line for two texts, with what the areas that are lent for the verdict hold before and after it: "The first text's refusal goes
   -- first." A table goes with its text as its name bytes.
   pub data Answers : List ℕ → Type 0 where
-    first_refused : {n p : ℕ} → Reads new-text (refused n p) → after ≡ before → Answers (refused_line n 1 p)
+    first_refused : {n p : ℕ} → Reads new_text (refused n p) → after ≡ before → Answers (refused_line n 1 p)
     second_refused :
-        {new : Table} {n p : ℕ} → Reads new-text (made new) → Reads old-text (refused n p) → after ≡ before → Answers (refused_line n 2 p)
+        {new : Table} {n p : ℕ} → Reads new_text (made new) → Reads old_text (refused n p) → after ≡ before → Answers (refused_line n 2 p)
     yes :
-        {new old : Table} {count : ℕ} → Reads new-text (made new) → Reads old-text (made old)
-        → Replaces new new-text (against q old) old-text before after (verdict.Yes count) → Answers (yes_line count)
+        {new old : Table} {count : ℕ} → Reads new_text (made new) → Reads old_text (made old)
+        → Replaces new new_text (against q old) old_text before after (verdict.Yes count) → Answers (yes_line count)
     no :
-        {new old : Table} {found : Found} → Reads new-text (made new) → Reads old-text (made old)
-        → Replaces new new-text (against q old) old-text before after (verdict.No found)
+        {new old : Table} {found : Found} → Reads new_text (made new) → Reads old_text (made old)
+        → Replaces new new_text (against q old) old_text before after (verdict.No found)
         → Answers (no_line found (take found.steps after.path))
 
 -- The line printed for an input, whatever areas the program lends for the verdict.

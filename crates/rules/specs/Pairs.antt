@@ -192,12 +192,12 @@ landed u (onto l r t) = some (record { turn = turn_after t u; new = left_in u l 
 abbrev pub starts : Table → Table → Pair
 starts new old = record { turn = 0; new = new.start; old = old.start }
 
-module _ (new : Table) (new-names : List ℕ) (old : Table) (old-names : List ℕ) where
+module _ (new : Table) (new_names : List ℕ) (old : Table) (old_names : List ℕ) where
   -- what is asked of the left node and its name bytes, and of the right ones
   abbrev pub beside : {A : Type 0} → (Node → List ℕ → Node → List ℕ → A) → Pair → A
   beside f p =
-      f (left_in p.turn (node_at new p.new) (node_at old p.old)) (left_in p.turn new-names old-names)
-      (right_in p.turn (node_at new p.new) (node_at old p.old)) (right_in p.turn new-names old-names)
+      f (left_in p.turn (node_at new p.new) (node_at old p.old)) (left_in p.turn new_names old_names)
+      (right_in p.turn (node_at new p.new) (node_at old p.old)) (right_in p.turn new_names old_names)
 
   unfoldable pub mismatch_at : Pair → Mismatch
   mismatch_at p = beside mismatch_of p

@@ -62,7 +62,7 @@ pub record Stands (s : List ℕ) (done : List Token) (t : Token) : Type 0 where
 -- 4 to 7. What is counted along a text. What begins at a token follows from the token before it: a definition behind `.` or at the
 -- beginning, a label behind `{` or `|`, an item behind `(`, `[` or `,`.
 pub data Begins : Type 0 where
-  a_definition a-label an_item nothing-new : Begins
+  a_definition a_label an_item nothing_new : Begins
 
 -- whether a symbol is one of these bytes
 unfoldable pub one_of : List ℕ → Symbol → Bool
@@ -92,8 +92,8 @@ begins_behind t =
       | true ↦ a_definition
       | false ↦
           elim (one_of (bytes "{|") (symbol t)) [
-            | true ↦ a-label
-            | false ↦ elim (one_of (bytes "([,") (symbol t)) [ true ↦ an_item | false ↦ nothing-new ]
+            | true ↦ a_label
+            | false ↦ elim (one_of (bytes "([,") (symbol t)) [ true ↦ an_item | false ↦ nothing_new ]
           ]
     ]
 
@@ -119,15 +119,15 @@ entered w (es ∷ bs) = (w ∷ es) ∷ bs
 
 abbrev pub names_after : Begins → List ℕ → List (List ℕ) → List (List ℕ)
 names_after a_definition w ns = w ∷ ns
-names_after a-label w ns = ns
+names_after a_label w ns = ns
 names_after an_item w ns = ns
-names_after nothing-new w ns = ns
+names_after nothing_new w ns = ns
 
 abbrev pub entries_after : Begins → List ℕ → List (List (List ℕ)) → List (List (List ℕ))
 entries_after a_definition w bs = bs
-entries_after a-label w bs = entered w bs
+entries_after a_label w bs = entered w bs
 entries_after an_item w bs = entered w bs
-entries_after nothing-new w bs = bs
+entries_after nothing_new w bs = bs
 
 abbrev pub bracket_closed : List (List (List ℕ)) → List (List (List ℕ))
 bracket_closed [] = []
@@ -170,10 +170,10 @@ pub data TokenFault (z : Seen) (t : Token) : ℕ → Type 0 where
   -- "one definition, node, label or item too many"
   definition_more : z.next ≡ a_definition → definitions_most ≤ length z.names → TokenFault z t one_too_many
   node_more : begins_node t ≡ true → text_nodes_most ≤ z.nodes → TokenFault z t one_too_many
-  label_more : z.next ≡ a-label → labels_most ≤ length (innermost z.brackets) → TokenFault z t one_too_many
+  label_more : z.next ≡ a_label → labels_most ≤ length (innermost z.brackets) → TokenFault z t one_too_many
   item_more : z.next ≡ an_item → items_most ≤ length (innermost z.brackets) → TokenFault z t one_too_many
   -- "label twice in a choice"
-  same_label : z.next ≡ a-label → among (innermost z.brackets) t.spelled ≡ true → TokenFault z t label_twice
+  same_label : z.next ≡ a_label → among (innermost z.brackets) t.spelled ≡ true → TokenFault z t label_twice
   -- "name defined twice"
   same_name : z.next ≡ a_definition → among z.names t.spelled ≡ true → TokenFault z t name_twice
 

@@ -6,12 +6,12 @@ use Rattle.rules.specs.Pairs.{Pair, Step, starts, mismatch_at}
 use Rattle.table.specs.declared.Table.{Table}
 use Rattle.table.specs.declared.answers.Mismatch.TheVariants.{Nothing}
 
-module _ (new : Table) (new-names : List ℕ) (old : Table) (old-names : List ℕ) where
+module _ (new : Table) (new_names : List ℕ) (old : Table) (old_names : List ℕ) where
   -- a set of pairs that "holds the starts and, with each pair, has no mismatch and all its steps"
   pub record Closed (set : Pair → Bool) : Type 0 where
     pub holds_starts : set (starts new old) ≡ true
-    pub no_mismatch : (p : Pair) → set p ≡ true → mismatch_at new new-names old old-names p ≡ Nothing
-    pub all_steps : (p q : Pair) (s : ℕ) → set p ≡ true → Step new new-names old old-names p s q → set q ≡ true
+    pub no_mismatch : (p : Pair) → set p ≡ true → mismatch_at new new_names old old_names p ≡ Nothing
+    pub all_steps : (p q : Pair) (s : ℕ) → set p ≡ true → Step new new_names old old_names p s q → set q ≡ true
 
   -- "New may replace old if some set of pairs holds the starts and, with each pair, has no mismatch and all its steps."
   pub record MayReplace : Type 0 where
@@ -25,4 +25,4 @@ module _ (new : Table) (new-names : List ℕ) (old : Table) (old-names : List �
 
 -- "New is compatible with other if new may replace the dual of other."
 abbrev pub Compatible : Table → List ℕ → Table → List ℕ → Type 0
-Compatible new new-names other other-names = MayReplace new new-names (dual other) other-names
+Compatible new new_names other other_names = MayReplace new new_names (dual other) other_names

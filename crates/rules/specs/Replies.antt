@@ -80,18 +80,18 @@ abbrev pub cleared : ℕ → List ℕ → List ℕ
 cleared k a = replicate k 0 ++ drop k a
 
 -- no refusal applies: both tables are well formed, and every area is long enough
-pub record NoRefusal (new : Table) (new-names : List ℕ) (old : Table) (old-names : List ℕ) (before : Areas) : Type 0 where
-  pub new_formed : well_formed new new-names ≡ true
-  pub old_formed : well_formed old old-names ≡ true
+pub record NoRefusal (new : Table) (new_names : List ℕ) (old : Table) (old_names : List ℕ) (before : Areas) : Type 0 where
+  pub new_formed : well_formed new new_names ≡ true
+  pub old_formed : well_formed old old_names ≡ true
   pub marks_long : pair_count new old ≤ length before.marks
   pub path_long : pair_count new old ≤ length before.path
   pub scratch_long : scratch_size new old ≤ length before.scratch
 
-module _ (new : Table) (new-names : List ℕ) (old : Table) (old-names : List ℕ) (before after : Areas) where
+module _ (new : Table) (new_names : List ℕ) (old : Table) (old_names : List ℕ) (before after : Areas) where
   -- "After yes: reached pairs are marked 1, others 0; path untouched; the count of marks is returned." "Scratch is 0 after either."
   pub record SaysYes (count : ℕ) : Type 0 where
     pub set : Pair → Bool
-    pub smallest : Smallest new new-names old old-names set
+    pub smallest : Smallest new new_names old old_names set
     pub size : length after.marks ≡ length before.marks
     pub marked :
         (p : Pair) → p.turn < turns_most → p.new < new.count → p.old < old.count
@@ -106,15 +106,15 @@ module _ (new : Table) (new-names : List ℕ) (old : Table) (old-names : List �
   pub record SaysNo (found : Found) : Type 0 where
     pub run : List ℕ
     pub end : Pair
-    pub runs : Run new new-names old old-names run end
-    pub wrong : IsMismatch new new-names old old-names end
+    pub runs : Run new new_names old old_names run end
+    pub wrong : IsMismatch new new_names old old_names end
     pub earliest :
-        (r : List ℕ) (q : Pair) → Run new new-names old old-names r q → IsMismatch new new-names old old-names q → Before r run → ⊥
+        (r : List ℕ) (q : Pair) → Run new new_names old old_names r q → IsMismatch new new_names old old_names q → Before r run → ⊥
     pub returned :
         found
         ≡ record {
-          reason = reason (mismatch_at new new-names old old-names end);
-          detail = detail (mismatch_at new new-names old old-names end);
+          reason = reason (mismatch_at new new_names old old_names end);
+          detail = detail (mismatch_at new new_names old old_names end);
           new = end.new;
           old = end.old;
           turn = end.turn;
@@ -127,32 +127,32 @@ module _ (new : Table) (new-names : List ℕ) (old : Table) (old-names : List �
   -- The reply of a verdict: "For a verdict: 10 for the first table, 10 for the second, then 11 for the least area. Each is given exactly
   -- then. A refusal returns number and place and writes nothing."
   pub data Replaces : Verdict → Type 0 where
-    new_not_formed : well_formed new new-names ≡ false → after ≡ before → Replaces (verdict.Refused not_well_formed 1)
+    new_not_formed : well_formed new new_names ≡ false → after ≡ before → Replaces (verdict.Refused not_well_formed 1)
     old_not_formed :
-        well_formed new new-names ≡ true → well_formed old old-names ≡ false → after ≡ before
+        well_formed new new_names ≡ true → well_formed old old_names ≡ false → after ≡ before
         → Replaces (verdict.Refused not_well_formed 2)
     marks_short :
-        well_formed new new-names ≡ true → well_formed old old-names ≡ true → length before.marks < pair_count new old → after ≡ before
+        well_formed new new_names ≡ true → well_formed old old_names ≡ true → length before.marks < pair_count new old → after ≡ before
         → Replaces (verdict.Refused area_too_short 1)
     path_short :
-        well_formed new new-names ≡ true → well_formed old old-names ≡ true → pair_count new old ≤ length before.marks
+        well_formed new new_names ≡ true → well_formed old old_names ≡ true → pair_count new old ≤ length before.marks
         → length before.path < pair_count new old → after ≡ before → Replaces (verdict.Refused area_too_short 2)
     scratch_short :
-        well_formed new new-names ≡ true → well_formed old old-names ≡ true → pair_count new old ≤ length before.marks
+        well_formed new new_names ≡ true → well_formed old old_names ≡ true → pair_count new old ≤ length before.marks
         → pair_count new old ≤ length before.path → length before.scratch < scratch_size new old → after ≡ before
         → Replaces (verdict.Refused area_too_short 3)
-    says_yes : {count : ℕ} → NoRefusal new new-names old old-names before → SaysYes count → Replaces (verdict.Yes count)
-    says_no : {found : Found} → NoRefusal new new-names old old-names before → SaysNo found → Replaces (verdict.No found)
+    says_yes : {count : ℕ} → NoRefusal new new_names old old_names before → SaysYes count → Replaces (verdict.Yes count)
+    says_no : {found : Found} → NoRefusal new new_names old old_names before → SaysNo found → Replaces (verdict.No found)
 
 -- "New is compatible with other .. is asked in two calls, the dual and then the verdict, each with its own refusals; marks, nodes and
 -- runs are then those of new and the dual." The first call's reply, and the second's where it is made.
-pub data AsksCompatible (new : Table) (new-names : List ℕ) (other : Table) (other-names : List ℕ) (before after : Areas) : Made → Option Verdict → Type 0 where
+pub data AsksCompatible (new : Table) (new_names : List ℕ) (other : Table) (other_names : List ℕ) (before after : Areas) : Made → Option Verdict → Type 0 where
   no_dual :
-      {n p : ℕ} → dual_reply other other-names ≡ refused n p → after ≡ before
-      → AsksCompatible new new-names other other-names before after (refused n p) none
+      {n p : ℕ} → dual_reply other other_names ≡ refused n p → after ≡ before
+      → AsksCompatible new new_names other other_names before after (refused n p) none
   then_verdict :
-      {t : Table} {v : Verdict} → dual_reply other other-names ≡ made t → Replaces new new-names t other-names before after v
-      → AsksCompatible new new-names other other-names before after (made t) (some v)
+      {t : Table} {v : Verdict} → dual_reply other other_names ≡ made t → Replaces new new_names t other_names before after v
+      → AsksCompatible new new_names other other_names before after (made t) (some v)
 
 -- The missing label: of what is the new table's and what is the old one's, what is the chooser's, "by kind and turn".
 abbrev pub of_chooser : {A : Type 0} → Kind → ℕ → A → A → A
@@ -166,23 +166,23 @@ unfoldable pub chooser : Table → Table → Found → Node
 chooser new old f = of_chooser (kind_found new f) f.turn (node_at new f.new) (node_at old f.old)
 
 unfoldable pub chooser_names : Table → List ℕ → List ℕ → Found → List ℕ
-chooser_names new new-names old-names f = of_chooser (kind_found new f) f.turn new-names old-names
+chooser_names new new_names old_names f = of_chooser (kind_found new f) f.turn new_names old_names
 
 -- "An answer handed in for this fits exactly if its reason is 23, both tables are well formed, nodes and turn exist, both nodes are
 -- choices of one kind and the detail is a position in the chooser's list."
 unfoldable pub found_fits : Table → List ℕ → Table → List ℕ → Found → Bool
-found_fits new new-names old old-names f =
-    eqb f.reason (reason (mismatch.Label f.detail)) && well_formed new new-names && well_formed old old-names
+found_fits new new_names old old_names f =
+    eqb f.reason (reason (mismatch.Label f.detail)) && well_formed new new_names && well_formed old old_names
     && ltb f.new new.count && ltb f.old old.count && ltb f.turn turns_most && is_choice (kind_found new f)
     && eqb (kind_number (kind_found new f)) (kind_number (node_at old f.old).kind)
     && ltb f.detail (label_count (chooser new old f))
 
 -- "the missing label is handed back as a part of the chooser's name bytes .. If it does not fit, the part is empty."
 unfoldable pub missing_label : Table → List ℕ → Table → List ℕ → Verdict → List ℕ
-missing_label new new-names old old-names (verdict.Yes c) = []
-missing_label new new-names old old-names (verdict.Refused n p) = []
-missing_label new new-names old old-names (verdict.No f) =
-    elim (found_fits new new-names old old-names f) [
-      | true ↦ spelling_at (chooser new old f) (chooser_names new new-names old-names f) f.detail
+missing_label new new_names old old_names (verdict.Yes c) = []
+missing_label new new_names old old_names (verdict.Refused n p) = []
+missing_label new new_names old old_names (verdict.No f) =
+    elim (found_fits new new_names old old_names f) [
+      | true ↦ spelling_at (chooser new old f) (chooser_names new new_names old_names f) f.detail
       | false ↦ []
     ]

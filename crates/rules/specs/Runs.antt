@@ -4,11 +4,11 @@ use Rattle.std.specs.Prelude.{List, [], ◌∷◌, ◌⊎◌, ◌≡◌, ℕ, �
 use Rattle.rules.specs.Pairs.{Pair, Step, starts}
 use Rattle.table.specs.declared.Table.{Table}
 
-module _ (new : Table) (new-names : List ℕ) (old : Table) (old-names : List ℕ) where
+module _ (new : Table) (new_names : List ℕ) (old : Table) (old_names : List ℕ) where
   -- the steps r lead from p to q
   abbrev pub Leads : Pair → List ℕ → Pair → Type 0
   Leads p [] q = p ≡ q
-  Leads p (s ∷ r) q = (m : Pair) × Step new new-names old old-names p s m × Leads m r q
+  Leads p (s ∷ r) q = (m : Pair) × Step new new_names old old_names p s m × Leads m r q
 
   -- "A run is any finite sequence of such steps from the starts; its last pair may be a mismatch."
   abbrev pub Run : List ℕ → Pair → Type 0

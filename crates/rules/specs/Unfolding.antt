@@ -19,21 +19,21 @@ ItemBeside R (Session k) (Session l) = R k l
 
 -- One equation: a node of the kind k beside one of the kind f k, with as many items and the same labels in the same order ("labels and
 -- lists stay"); nodes that items link to are related by I, those that a continuation or a label goes on to by G.
-pub record Beside (names other-names : List ℕ) (f : Kind → Kind) (I G : ℕ → ℕ → Type 0) (x y : Node) : Type 0 where
+pub record Beside (names other_names : List ℕ) (f : Kind → Kind) (I G : ℕ → ℕ → Type 0) (x y : Node) : Type 0 where
   pub kind : y.kind ≡ f x.kind
   pub items : item_count y ≡ item_count x
   pub each_item : (i : ℕ) → i < item_count x → ItemBeside I (item_at x i) (item_at y i)
   pub goes_on : is_message x.kind ≡ true → G (continuation x) (continuation y)
   pub labels : label_count y ≡ label_count x
-  pub each_label : (i : ℕ) → i < label_count x → spelling_at y other-names i ≡ spelling_at x names i
+  pub each_label : (i : ℕ) → i < label_count x → spelling_at y other_names i ≡ spelling_at x names i
   pub leads_on : (i : ℕ) → i < label_count x → G (label_at x i).to (label_at y i).to
 
 -- a table with its name bytes, and another with its own
-module _ (t : Table) (names : List ℕ) (u : Table) (other-names : List ℕ) where
+module _ (t : Table) (names : List ℕ) (u : Table) (other_names : List ℕ) where
   -- A set of nodes of the one beside nodes of the other that keeps to an equation at each of its members.
   pub record Keeps (f : Kind → Kind) (I : ℕ → ℕ → Type 0) (set : ℕ → ℕ → Bool) : Type 0 where
     pub within : (i j : ℕ) → set i j ≡ true → (i < t.count) × (j < u.count)
-    pub each : (i j : ℕ) → set i j ≡ true → Beside names other-names f I (λ k l. set k l ≡ true) (node_at t i) (node_at u j)
+    pub each : (i j : ℕ) → set i j ≡ true → Beside names other_names f I (λ k l. set k l ≡ true) (node_at t i) (node_at u j)
 
   -- Node i and node j say the same: some set holds them in which each node stands beside one of its own kind, with items in the set too.
   pub record SameByUnfolding (i j : ℕ) : Type 0 where

@@ -20,11 +20,11 @@ abbrev pub line_size : ℕ → ℕ → ℕ
 line_size n m = 6 * n * m + 18
 
 -- the node counts of the tables that are held against each other; beside a refusal a table has no nodes
-pub record Counts (q : Question) (new-text old-text : List ℕ) (n m : ℕ) : Type 0 where
+pub record Counts (q : Question) (new_text old_text : List ℕ) (n m : ℕ) : Type 0 where
   pub first : Made
   pub second : Made
-  pub first_read : Reads new-text first
-  pub second_read : Reads old-text second
+  pub first_read : Reads new_text first
+  pub second_read : Reads old_text second
   pub new_count : n ≡ first.table.count
   pub old_count : m ≡ (against q second.table).count
 
@@ -62,14 +62,14 @@ pub data LeastShort (n m : ℕ) (k : Lengths) : ℕ → Type 0 where
       → LeastShort n m k 4
 
 -- The reply: 11 for the least area, where nothing is written; else the line stands at the front of its area, and what is beyond stays.
-pub data WritesLine (q : Question) (new-text old-text : List ℕ) (before after : LineAreas) : Written → Type 0 where
+pub data WritesLine (q : Question) (new_text old_text : List ℕ) (before after : LineAreas) : Written → Type 0 where
   refuses :
-      {n m p : ℕ} → Counts q new-text old-text n m → LeastShort n m (lengths before) p → after ≡ before
-      → WritesLine q new-text old-text before after (Refused area_too_short p)
+      {n m p : ℕ} → Counts q new_text old_text n m → LeastShort n m (lengths before) p → after ≡ before
+      → WritesLine q new_text old_text before after (Refused area_too_short p)
   writes :
-      {n m : ℕ} {l : List ℕ} → Counts q new-text old-text n m → AllLong n m (lengths before)
-      → Answers q new-text old-text before.lent after.lent l → after.line ≡ l ++ drop (length l) before.line
-      → WritesLine q new-text old-text before after (Line (length l))
+      {n m : ℕ} {l : List ℕ} → Counts q new_text old_text n m → AllLong n m (lengths before)
+      → Answers q new_text old_text before.lent after.lent l → after.line ≡ l ++ drop (length l) before.line
+      → WritesLine q new_text old_text before after (Line (length l))
 
 -- The reply of what lends its own marks, path and scratch: for an input the area then begins with the printed line, of r bytes, and what
 -- is beyond stays.

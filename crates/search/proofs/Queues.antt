@@ -22,7 +22,7 @@ zeros (suc n) (suc i) = zeros n i
 pub begun-made :
     (start : ℕ) {size n m : ℕ} {marks scratch : List ℕ} → n ≡ size → m ≡ size + size → marks ≡ replicate n 0 → scratch ≡ replicate m 0
     → record { marks = set marks start 1; scratch = set scratch 0 start; tail = 1 } ≡ begun size start
-begun-made start n-is m-is clear-marks clear-scratch = rw (clear-marks, n-is, clear-scratch, m-is)
+begun-made start n_is m_is clear_marks clear_scratch = rw (clear_marks, n_is, clear_scratch, m_is)
 
 module _ {size start : ℕ} (few : size ≤ 32768) (within : start < size) where
   abbrev first : Kept

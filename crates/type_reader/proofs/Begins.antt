@@ -16,7 +16,7 @@ use Rattle.rules.specs.Words.{word_most}
 use Rattle.rules.specs.Tokens.{Token, Symbol, word, reserved_word, one_byte, symbol}
 use Rattle.rules.specs.Notation.{ended, name, end_position}
 use Rattle.rules.specs.Numbers.{text_most, text_nodes_most}
-use Rattle.rules.specs.Refusals.{Begins, nothing-new, one_of, entries_after, names_after, unexpected, one_too_many}
+use Rattle.rules.specs.Refusals.{Begins, nothing_new, one_of, entries_after, names_after, unexpected, one_too_many}
 use Rattle.rules.specs.computed.Reading.{token_fault, lowest}
 use Rattle.rules.proofs.Machine.{a_type, Stack, on, stuck, Row, ◌⇒◌, look, type_rows, step}
 use Rattle.rules.proofs.Reached.{Reached, Refuses}
@@ -71,7 +71,7 @@ module _ {s : List ℕ} (l : length s ≤ text_most) {t : Taken} where
     name_reached :
         {ts : List Token} (k : Took s t ts word) {J K : Stack} {nx : Begins} (n : ℕ) (ns : List (List ℕ)) {bs : List (List (List ℕ))}
         → TypeRoom nx bs → t.len ≤ word_most → Reached s ts J (counted nx n ns bs) → step J (word k.token) ≡ on K
-        → Reached s (tokens_behind s t.next.at) K (counted nothing-new n ns (entries_after nx (first_spelled ts) bs))
+        → Reached s (tokens_behind s t.next.at) K (counted nothing_new n ns (entries_after nx (first_spelled ts) bs))
     unfolding one_of
     name_reached k {nx} n ns {bs} fits j r d =
         let g = took_counted k nx n ns bs r d (name_fault k n ns fits j) in
@@ -109,22 +109,22 @@ module _ {s : List ℕ} (l : length s ≤ text_most) {t : Taken} where
         }
 
   -- a symbol that begins a node
-  module _ (y : Symbol) (none-opens : opens_symbol y ≡ false) (none_closes : closes_symbol y ≡ false) (begins : begins_symbol y ≡ true) (goes_on : next_symbol y ≡ nothing-new) where
+  module _ (y : Symbol) (none_opens : opens_symbol y ≡ false) (none_closes : closes_symbol y ≡ false) (begins : begins_symbol y ≡ true) (goes_on : next_symbol y ≡ nothing_new) where
     node_fault :
         {ts : List Token} (k : Took s t ts (λ u. y)) → length k.token.spelled ≤ word_most → {nx : Begins} (n : ℕ) (ns : List (List ℕ))
         {bs : List (List (List ℕ))} → TypeRoom nx bs → (f : Bool) → leb text_nodes_most n ≡ f
         → token_fault (counted nx n ns bs) k.token ≡ lowest false false f none
-    node_fault k j {nx} n ns {bs} fits f q = fault_here k.token y nx n ns bs k.means j fits ∙ rw (none-opens, begins, q) refl
+    node_fault k j {nx} n ns {bs} fits f q = fault_here k.token y nx n ns bs k.means j fits ∙ rw (none_opens, begins, q) refl
 
     pub node_reached :
         {ts : List Token} (k : Took s t ts (λ u. y)) → length k.token.spelled ≤ word_most → {J L : Stack} {nx : Begins} (n : ℕ)
         (ns : List (List ℕ)) {bs : List (List (List ℕ))} → TypeRoom nx bs → n < text_nodes_most → Reached s ts J (counted nx n ns bs)
         → step J y ≡ on L
-        → Reached s (tokens_behind s t.next.at) L (counted nothing-new (n + 1) ns (entries_after nx (first_spelled ts) bs))
+        → Reached s (tokens_behind s t.next.at) L (counted nothing_new (n + 1) ns (entries_after nx (first_spelled ts) bs))
     node_reached k j {nx} n ns {bs} fits q r d =
         let g = took_counted k nx n ns bs r d (node_fault k j n ns fits false (lt-leb text_nodes_most n q)) in
         rw (took_spelled k, add-one n)
-        (rw (names_room fits k.token.spelled ns, nodes_one_more y n begins, brackets_plain y (entries_after nx k.token.spelled bs) none-opens none_closes, goes_on) at g)
+        (rw (names_room fits k.token.spelled ns, nodes_one_more y n begins, brackets_plain y (entries_after nx k.token.spelled bs) none_opens none_closes, goes_on) at g)
 
     pub node_refused :
         {ts : List Token} (k : Took s t ts (λ u. y)) → length k.token.spelled ≤ word_most → {J L : Stack} {nx : Begins} (n : ℕ)

@@ -13,7 +13,7 @@ use Rattle.rules.specs.Tokens.{Token, one_byte, symbols}
 use Rattle.rules.specs.Notation.{Way, choice, Labels, write_labels}
 use Rattle.rules.specs.Numbers.{text_most, text_nodes_most, labels_most}
 use Rattle.rules.specs.Numbering.{behind_labels}
-use Rattle.rules.specs.Refusals.{a-label}
+use Rattle.rules.specs.Refusals.{a_label}
 use Rattle.rules.proofs.Links.{behind_labels_more}
 use Rattle.rules.proofs.Machine as expect
 use Rattle.rules.proofs.Machine.{Stack}
@@ -78,7 +78,7 @@ pub labels_right :
     → LabelsGot s a b a' b' ts K ns bs k u node n (Past v c) → LabelsRight s a b a' b' ts K ns bs k u node n v c
 labels_right (answers.past ls w q f r) = record { labels = ls; wrote = w; count = q; few = f; right = r }
 
-choice_shape : (d : Way) → Shape (choice_byte d) (code "{") (λ K. expect.a-label ∷ K)
+choice_shape : (d : Way) → Shape (choice_byte d) (code "{") (λ K. expect.a_label ∷ K)
 choice_shape d = record { byte = choice_bytes d; node = choice_begins d; bracket = open_labels; leads = choice_step d }
 
 module _ {s : List ℕ} (l : length s ≤ text_most) (d : Way) {t : Taken} (e : t.kind ≡ choice_byte d) {deep : ℕ} where
@@ -93,7 +93,7 @@ module _ {s : List ℕ} (l : length s ≤ text_most) (d : Way) {t : Taken} (e : 
       -- behind the brace
       behind_brace :
           (z : Standing s t deep)
-          → Reached s (tokens_behind s c₂.at) (expect.a-label ∷ z.K) (counted a-label c₂.nodes z.ns ([] ∷ inside z))
+          → Reached s (tokens_behind s c₂.at) (expect.a_label ∷ z.K) (counted a_label c₂.nodes z.ns ([] ∷ inside z))
           × (symbols (tokens_behind s t.next.at) ≡ one_byte (code "{") ∷ symbols (tokens_behind s c₂.at))
       behind_brace z =
           let r = behind_bracket l (choice_shape d) e q o z in

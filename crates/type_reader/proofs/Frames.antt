@@ -110,7 +110,7 @@ module _ (a b a' b' : List ℕ) where
         (x : Ty) (k u : ℕ) → Stored a b x k u → Same a a' (k * room) (behind x k * room) → Same b b' u (used x u) → Stored a' b' x k u
     stored_same ended k u h p q = holds_same (k * room) _ h p (omega arith) (omega arith)
     stored_same (name w) k u h p q = holds_same u _ h q (omega arith) (omega arith)
-    stored_same (message d xs x) k u (head, list, few, inner, behind-it) p q =
+    stored_same (message d xs x) k u (head, list, few, inner, behind_it) p q =
         let m = behind_items_more xs (suc k) in
         let n = behind_more x (behind_items xs (suc k)) in
         let i = used_items_more xs u in
@@ -121,7 +121,7 @@ module _ (a b a' b' : List ℕ) where
           few,
           items_same xs (suc k) u inner (same_within (suc k * room) (behind_items xs (suc k) * room) p (omega arith) (omega arith))
               (same_within u (used_items xs u) q (omega arith) (omega arith)),
-          stored_same x (behind_items xs (suc k)) (used_items xs u) behind-it
+          stored_same x (behind_items xs (suc k)) (used_items xs u) behind_it
               (same_within (behind_items xs (suc k) * room) (behind x (behind_items xs (suc k)) * room) p (omega arith) (omega arith))
               (same_within (used_items xs u) (used x (used_items xs u)) q (omega arith) (omega arith)),
         )

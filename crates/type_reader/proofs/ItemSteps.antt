@@ -14,8 +14,8 @@ use Rattle.rules.specs.Basics.{first}
 use Rattle.rules.specs.Words.{reserved_words}
 use Rattle.rules.specs.Tokens.{Symbol, word, reserved_word, one_byte}
 use Rattle.rules.specs.Notation.{Way, into, out, closing, end_position, sort_position}
-use Rattle.rules.specs.Refusals.{nothing-new, an_item, one_of}
-use Rattle.rules.proofs.Machine.{a_type, some-items, more-items, Stack, on, stuck, Row, ◌⇒◌, look, type_rows, in_message, in_choice, step, close_byte}
+use Rattle.rules.specs.Refusals.{nothing_new, an_item, one_of}
+use Rattle.rules.proofs.Machine.{a_type, some_items, more_items, Stack, on, stuck, Row, ◌⇒◌, look, type_rows, in_message, in_choice, step, close_byte}
 use Rattle.rules.proofs.Machine as expect
 use Rattle.rules.proofs.OneToken.{opens_symbol, closes_symbol, begins_symbol, next_symbol}
 use Rattle.cursor.specs.Takes.{kind, reserved_kind, word_kind, end_kind}
@@ -43,12 +43,12 @@ type_more b K rs us e =
     (look_more b (code "!" ⇒ in_message out K) _ _ (look_more b (code "&" ⇒ in_choice K) _ _ (look_more b (code "+" ⇒ in_choice K) _ _ e)))
 
 -- first in its list an item is what it is behind a comma, unless the list is closed at once
-pub first_item : (d : Way) (K : Stack) (y : Symbol) → (y ≡ one_byte (close_byte d) → ⊥) → step (some-items d ∷ K) y ≡ step (expect.an_item d ∷ K) y
+pub first_item : (d : Way) (K : Stack) (y : Symbol) → (y ≡ one_byte (close_byte d) → ⊥) → step (some_items d ∷ K) y ≡ step (expect.an_item d ∷ K) y
 unfolding step
 first_item d K (word w) n = refl
 first_item d K (reserved_word i) n = refl
 first_item d K (one_byte b) n =
-    type_more b (more-items d ∷ K) ((close_byte d ⇒ K) ∷ []) []
+    type_more b (more_items d ∷ K) ((close_byte d ⇒ K) ∷ []) []
     (look-past b (close_byte d) K [] (λ q. n (ap one_byte q)) (no-row b) ∙ sym (no-row b))
 
 -- the kinds of the reserved words behind `end` are those of sorts
@@ -62,12 +62,12 @@ no-sort-row i j n l m e =
     false≢true (sym (rw k at n) ∙ sort_kind j l m)
 
 -- an item that is no sort is a type
-pub type_item : (d : Way) (K : Stack) (y : Symbol) → is_sort (kind y) ≡ false → step (expect.an_item d ∷ K) y ≡ step (a_type ∷ more-items d ∷ K) y
+pub type_item : (d : Way) (K : Stack) (y : Symbol) → is_sort (kind y) ≡ false → step (expect.an_item d ∷ K) y ≡ step (a_type ∷ more_items d ∷ K) y
 unfolding step
 type_item d K (word w) n = refl
 type_item d K (one_byte b) n = refl
 type_item d K (reserved_word i) n =
-    look_more i (end_position ⇒ more-items d ∷ K) _ []
+    look_more i (end_position ⇒ more_items d ∷ K) _ []
     (look-past i (sort_position String) _ _ (no-sort-row i 1 n (omega arith) (omega arith))
     (look-past i (sort_position Float) _ _ (no-sort-row i 2 n (omega arith) (omega arith))
     (look-past i (sort_position Boolean) _ _ (no-sort-row i 3 n (omega arith) (omega arith))
@@ -81,11 +81,11 @@ pub record ItemGoesOn (d : Way) (K : Stack) (y : Symbol) : Type 0 where
 
 reserved_goes_on : (d : Way) (K : Stack) (i : ℕ) → i < length reserved_words → ItemGoesOn d K (reserved_word i)
 unfolding step look one_of
-reserved_goes_on d K zero l = record { to = more-items d ∷ K; leads = refl; no_opening = refl }
-reserved_goes_on d K (suc zero) l = record { to = more-items d ∷ K; leads = refl; no_opening = refl }
-reserved_goes_on d K (suc (suc zero)) l = record { to = more-items d ∷ K; leads = refl; no_opening = refl }
-reserved_goes_on d K (suc (suc (suc zero))) l = record { to = more-items d ∷ K; leads = refl; no_opening = refl }
-reserved_goes_on d K (suc (suc (suc (suc zero)))) l = record { to = more-items d ∷ K; leads = refl; no_opening = refl }
+reserved_goes_on d K zero l = record { to = more_items d ∷ K; leads = refl; no_opening = refl }
+reserved_goes_on d K (suc zero) l = record { to = more_items d ∷ K; leads = refl; no_opening = refl }
+reserved_goes_on d K (suc (suc zero)) l = record { to = more_items d ∷ K; leads = refl; no_opening = refl }
+reserved_goes_on d K (suc (suc (suc zero))) l = record { to = more_items d ∷ K; leads = refl; no_opening = refl }
+reserved_goes_on d K (suc (suc (suc (suc zero)))) l = record { to = more_items d ∷ K; leads = refl; no_opening = refl }
 reserved_goes_on d K (suc (suc (suc (suc (suc i))))) l = absurd (omega arith)
 
 -- one of the four bytes
@@ -109,10 +109,10 @@ byte_goes_on : (d : Way) (K : Stack) (b : ℕ) → begins_type b ≡ true → It
 unfolding step look one_of first
 byte_goes_on d K b e =
     elim (type_byte b e) [
-      | inl q ↦ rw q (record { to = in_message into (more-items d ∷ K); leads = refl; no_opening = refl })
-      | inr (inl q) ↦ rw q (record { to = in_message out (more-items d ∷ K); leads = refl; no_opening = refl })
-      | inr (inr (inl q)) ↦ rw q (record { to = in_choice (more-items d ∷ K); leads = refl; no_opening = refl })
-      | inr (inr (inr q)) ↦ rw q (record { to = in_choice (more-items d ∷ K); leads = refl; no_opening = refl })
+      | inl q ↦ rw q (record { to = in_message into (more_items d ∷ K); leads = refl; no_opening = refl })
+      | inr (inl q) ↦ rw q (record { to = in_message out (more_items d ∷ K); leads = refl; no_opening = refl })
+      | inr (inr (inl q)) ↦ rw q (record { to = in_choice (more_items d ∷ K); leads = refl; no_opening = refl })
+      | inr (inr (inr q)) ↦ rw q (record { to = in_choice (more_items d ∷ K); leads = refl; no_opening = refl })
     ]
 
 no_byte : begins_item 263 ≡ false
@@ -121,7 +121,7 @@ no_byte = refl
 
 pub item_goes_on : (d : Way) (K : Stack) (y : Symbol) → begins_item (kind y) ≡ true → ItemGoesOn d K y
 unfolding kind begins_item step one_of
-item_goes_on d K (word w) e = record { to = more-items d ∷ K; leads = refl; no_opening = refl }
+item_goes_on d K (word w) e = record { to = more_items d ∷ K; leads = refl; no_opening = refl }
 item_goes_on d K (reserved_word i) e = go (ltb i (length reserved_words)) refl
   where
     go : (q : Bool) → ltb i (length reserved_words) ≡ q → ItemGoesOn d K (reserved_word i)
@@ -219,7 +219,7 @@ a_sort (one_byte b) e = go (ltb b reserved_kind) refl
     go true q = let z : is_sort b ≡ true = rw (kind, q) at e in absurd (omega (arith, (sort_between b z).0, ltb-true b reserved_kind q))
     go false q = let z : is_sort 263 ≡ true = rw (kind, q) at e in absurd (omega (arith, (sort_between 263 z).1))
 
-pub sort_leads : (d : Way) (K : Stack) (s : Sort) → step (expect.an_item d ∷ K) (reserved_word (sort_position s)) ≡ on (more-items d ∷ K)
+pub sort_leads : (d : Way) (K : Stack) (s : Sort) → step (expect.an_item d ∷ K) (reserved_word (sort_position s)) ≡ on (more_items d ∷ K)
 unfolding step look
 sort_leads d K String = refl
 sort_leads d K Float = refl
@@ -231,7 +231,7 @@ pub record Quiet (y : Symbol) : Type 0 where
   pub no_opening : opens_symbol y ≡ false
   pub no_closing : closes_symbol y ≡ false
   pub no_node : begins_symbol y ≡ false
-  pub goes_on : next_symbol y ≡ nothing-new
+  pub goes_on : next_symbol y ≡ nothing_new
 
 pub sort_quiet : (s : Sort) → Quiet (reserved_word (sort_position s))
 unfolding one_of
@@ -246,7 +246,7 @@ pub record Closing (b : ℕ) : Type 0 where
   pub no_opening : opens_symbol (one_byte b) ≡ false
   pub closing : closes_symbol (one_byte b) ≡ true
   pub no_node : begins_symbol (one_byte b) ≡ false
-  pub goes_on : next_symbol (one_byte b) ≡ nothing-new
+  pub goes_on : next_symbol (one_byte b) ≡ nothing_new
 
 pub close_items : (d : Way) → Closing (close_byte d)
 unfolding one_of first
@@ -261,21 +261,21 @@ pub closing_sign : (d : Way) → closing d ≡ one_byte (close_byte d)
 closing_sign into = refl
 closing_sign out = refl
 
-pub none_closes : (d : Way) (K : Stack) → step (some-items d ∷ K) (one_byte (close_byte d)) ≡ on K
+pub none_closes : (d : Way) (K : Stack) → step (some_items d ∷ K) (one_byte (close_byte d)) ≡ on K
 unfolding step look
 none_closes into K = refl
 none_closes out K = refl
 
-pub rest_closes : (d : Way) (K : Stack) → step (more-items d ∷ K) (one_byte (close_byte d)) ≡ on K
+pub rest_closes : (d : Way) (K : Stack) → step (more_items d ∷ K) (one_byte (close_byte d)) ≡ on K
 unfolding step look
 rest_closes into K = refl
 rest_closes out K = refl
 
-pub rest_comma : (d : Way) (K : Stack) → step (more-items d ∷ K) (one_byte (code ",")) ≡ on (expect.an_item d ∷ K)
+pub rest_comma : (d : Way) (K : Stack) → step (more_items d ∷ K) (one_byte (code ",")) ≡ on (expect.an_item d ∷ K)
 unfolding step look
 rest_comma d K = refl
 
-pub rest_stuck : (d : Way) (K : Stack) (y : Symbol) → (y ≡ one_byte (close_byte d) → ⊥) → (y ≡ one_byte (code ",") → ⊥) → step (more-items d ∷ K) y ≡ stuck
+pub rest_stuck : (d : Way) (K : Stack) (y : Symbol) → (y ≡ one_byte (close_byte d) → ⊥) → (y ≡ one_byte (code ",") → ⊥) → step (more_items d ∷ K) y ≡ stuck
 unfolding step
 rest_stuck d K (word w) n m = refl
 rest_stuck d K (reserved_word i) n m = no-row i

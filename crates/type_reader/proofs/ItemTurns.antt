@@ -10,9 +10,9 @@ use Rattle.rules.specs.Tokens.{Token, Symbol, reserved_word, one_byte, symbol, s
 use Rattle.rules.specs.Notation.{Way, Items, no_items, sort, session, sign, closing, sort_position, parted, write_type, write_items}
 use Rattle.rules.specs.Numbers.{items_most}
 use Rattle.rules.specs.Numbering.{behind}
-use Rattle.rules.specs.Refusals.{Begins, an_item, nothing-new, unexpected}
+use Rattle.rules.specs.Refusals.{Begins, an_item, nothing_new, unexpected}
 use Rattle.rules.proofs.Links.{behind_more}
-use Rattle.rules.proofs.Machine.{some-items, more-items, Stack, on, step, close_byte}
+use Rattle.rules.proofs.Machine.{some_items, more_items, Stack, on, step, close_byte}
 use Rattle.rules.proofs.Machine as expect
 use Rattle.rules.proofs.Reached.{Reached, Refuses}
 use Rattle.rules.proofs.OneToken.{counted}
@@ -73,7 +73,7 @@ item_then {a₁ = a₁} {b₁} {a₂} {b₂} {k = k} {u = u} i m (answers.past_s
 behind_item :
     {s a b a₁ b₁ : List ℕ} {d : Way} {ts : List Token} {K : Stack} {ns es : List (List ℕ)} {bs : List (List (List ℕ))} {k u node n v : ℕ} {c : Cursor}
     → ItemGot s a b a₁ b₁ d ts K ns es bs k u node n (Past v c)
-    → Reached s (tokens_behind s c.at) (more-items d ∷ K) (counted nothing-new c.nodes ns ((first_spelled ts ∷ es) ∷ bs))
+    → Reached s (tokens_behind s c.at) (more_items d ∷ K) (counted nothing_new c.nodes ns ((first_spelled ts ∷ es) ∷ bs))
 behind_item (answers.past_sort y e p) = p.reached
 behind_item (answers.past_session x e p) = p.reached
 
@@ -122,7 +122,7 @@ turn_first r = record { ready = r; onward = omega arith; more = omega arith; due
 -- an item that is not the closing bracket is read as behind a comma
 acts_first :
     {s : List ℕ} (d : Way) (K : Stack) {t : Taken} (ts : List Token) → Ahead s t ts → (t.kind ≡ close_byte d → ⊥)
-    → Acts (some-items d ∷ K) (expect.an_item d ∷ K) ts
+    → Acts (some_items d ∷ K) (expect.an_item d ∷ K) ts
 acts_first d K [] h n = tt
 acts_first d K (u ∷ k) h n = first_item d K (symbol u) (λ e. n (h.is ∙ rw e (kind_of_byte (close_byte d) (close_items d).byte)))
 
@@ -144,7 +144,7 @@ module _ {s : List ℕ} {c : Cursor} {t₀ : Taken} (k₀ : Takes s c t₀) {clo
         record {
           told = λ K ns bs r q.
               let ts : List Token = tokens_behind s c.at in
-              let due : Due s t₀ d K ns bs 0 = record { ts = ts; x = some-items d; J = K; es = []; ahead = k₀.ahead; acts = acts_first d K ts k₀.ahead (λ e. some (e ∙ sym x)); reached = rw k₀.nodes r; long = refl } in
+              let due : Due s t₀ d K ns bs 0 = record { ts = ts; x = some_items d; J = K; es = []; ahead = k₀.ahead; acts = acts_first d K ts k₀.ahead (λ e. some (e ∙ sym x)); reached = rw k₀.nodes r; long = refl } in
               let g = f (record { d = d; K = K; ns = ns; bs = bs; closes = x; depth = q; due = due }) in
               only_written d ts (rw (k₀.nodes, k₀.uses) at g);
         }

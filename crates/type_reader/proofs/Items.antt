@@ -16,10 +16,10 @@ use Rattle.rules.specs.Tokens.{Token, Symbol, word, reserved_word, symbol}
 use Rattle.rules.specs.Notation.{Way, sort_position}
 use Rattle.rules.specs.Numbers.{text_most, text_nodes_most, items_most}
 use Rattle.rules.specs.Numbering.{behind}
-use Rattle.rules.specs.Refusals.{an_item, nothing-new, one_too_many}
+use Rattle.rules.specs.Refusals.{an_item, nothing_new, one_too_many}
 use Rattle.rules.specs.computed.Reading.{token_fault}
 use Rattle.rules.proofs.Links.{behind_more}
-use Rattle.rules.proofs.Machine.{Expect, more-items, a_type, Stack, on, step}
+use Rattle.rules.proofs.Machine.{Expect, more_items, a_type, Stack, on, step}
 use Rattle.rules.proofs.Machine as expect
 use Rattle.rules.proofs.Reached.{Reached, Refuses, reached_fault}
 use Rattle.rules.proofs.OneToken.{counted, opens_symbol, begins_symbol, fault_symbol, fault_long, nodes_same, brackets_plain}
@@ -93,7 +93,7 @@ number_kept a from to n v m = record { each = go }
     go i p (inl q) = get_or-set_other a from i v 0 (λ e. omega arith)
     go i p (inr q) = get_or-set_other a from i v 0 (λ e. omega arith)
 
-word_leads : {d : Way} (K : Stack) (w : Token) → step (expect.an_item d ∷ K) (word w) ≡ on (more-items d ∷ K)
+word_leads : {d : Way} (K : Stack) (w : Token) → step (expect.an_item d ∷ K) (word w) ≡ on (more_items d ∷ K)
 unfolding step
 word_leads K w = refl
 
@@ -148,7 +148,7 @@ module _ {s : List ℕ} (l : length s ≤ text_most) where
   item_refused a b a' b' {t} (long_item e j) =
       refused_item (λ d K ns bs z q.
       let k = took_word z.ahead (long_word z.ahead j) in
-      took_fault k {L = more-items d ∷ K} l z.reached (acts_step (z.x ∷ z.J) (expect.an_item d ∷ K) k z.acts ∙ word_leads K k.token)
+      took_fault k {L = more_items d ∷ K} l z.reached (acts_step (z.x ∷ z.J) (expect.an_item d ∷ K) k z.acts ∙ word_leads K k.token)
       (fault_long (counted an_item t.next.nodes ns (z.es ∷ bs)) k.token (omega (arith, k.long))))
   item_refused a b a' b' {t} (item_too_many e j m) =
       refused_item {m = one_too_many} (λ d K ns bs z q.
@@ -158,7 +158,7 @@ module _ {s : List ℕ} (l : length s ≤ text_most) where
   behind_sort :
       {t : Taken} {d : Way} {K : Stack} {ns : List (List ℕ)} {bs : List (List (List ℕ))} {n : ℕ} (z : Due s t d K ns bs n) (w : SortTook s t z.ts)
       → t.len ≤ word_most → n < items_most
-      → Reached s (tokens_behind s t.next.at) (more-items d ∷ K) (counted nothing-new t.next.nodes ns ((first_spelled z.ts ∷ z.es) ∷ bs))
+      → Reached s (tokens_behind s t.next.at) (more_items d ∷ K) (counted nothing_new t.next.nodes ns ((first_spelled z.ts ∷ z.es) ∷ bs))
   behind_sort {t} {d} {K} {ns} {bs} z w j m =
       let k = w.is in
       let y : Symbol = reserved_word (sort_position w.which) in
@@ -192,16 +192,16 @@ module _ {s : List ℕ} (l : length s ≤ text_most) where
   -- A type.
   acts_type :
       {t : Taken} (d : Way) (ts : List Token) (x : Expect) (J K : Stack) → Ahead s t ts → is_sort t.kind ≡ false
-      → Acts (x ∷ J) (expect.an_item d ∷ K) ts → Acts (x ∷ J) (a_type ∷ more-items d ∷ K) ts
+      → Acts (x ∷ J) (expect.an_item d ∷ K) ts → Acts (x ∷ J) (a_type ∷ more_items d ∷ K) ts
   acts_type d [] x J K h e acts = tt
   acts_type d (u ∷ k) x J K h e acts = acts ∙ type_item d K (symbol u) (rw (← h.is) e)
 
   module _ {a b a₁ b₁ : List ℕ} {t : Taken} {deep n : ℕ} (m : n < items_most) (e : is_sort t.kind ≡ false) where
     type_told :
         {r : Got} → TypeRead s a b a₁ b₁ t deep r → {d : Way} {K : Stack} {ns : List (List ℕ)} {bs : List (List (List ℕ))} (z : Due s t d K ns bs n)
-        → suc (length bs) ≡ deep → TypeGot s a b a₁ b₁ t z.ts (more-items d ∷ K) an_item ns (z.es ∷ bs) r
+        → suc (length bs) ≡ deep → TypeGot s a b a₁ b₁ t z.ts (more_items d ∷ K) an_item ns (z.es ∷ bs) r
     type_told f {d} {K} {ns} {bs} z q =
-        f.told z.ts z.x z.J (more-items d ∷ K) an_item ns (z.es ∷ bs) z.ahead (acts_type d z.ts z.x z.J K z.ahead e z.acts) z.reached
+        f.told z.ts z.x z.J (more_items d ∷ K) an_item ns (z.es ∷ bs) z.ahead (acts_type d z.ts z.x z.J K z.ahead e z.acts) z.reached
         (as_item (omega (arith, z.long))) q
 
     pub item_type_refused : {node q p : ℕ} → TypeRead s a b a₁ b₁ t deep (Refused q p) → ItemRead s a b a₁ b₁ t deep node n (Refused q p)

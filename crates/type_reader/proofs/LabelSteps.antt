@@ -11,9 +11,9 @@ use native.Mathlib.Omega.{arith}
 use lib.ListN.{length, get_or}
 use Rattle.rules.specs.Basics.{part, same, first}
 use Rattle.rules.specs.Tokens.{Token, Symbol, word, reserved_word, one_byte}
-use Rattle.rules.specs.Refusals.{a-label, one_of, among}
+use Rattle.rules.specs.Refusals.{a_label, one_of, among}
 use Rattle.rules.proofs.Basics.{same_true, same_refl, some_below_true, some_below_at}
-use Rattle.rules.proofs.Machine.{this, a_type, more-labels, Stack, on, stuck, look, step}
+use Rattle.rules.proofs.Machine.{this, a_type, more_labels, Stack, on, stuck, look, step}
 use Rattle.rules.proofs.Machine as expect
 use Rattle.rules.proofs.OneToken.{next_symbol}
 use Rattle.flat.specs.Flat.{row, word_of, words_of}
@@ -75,25 +75,25 @@ words_same s a b i (suc n) f =
     (words_same s a b i n (λ j l m. f j l (omega arith)))
 
 -- where a label leads
-pub label_leads : (K : Stack) (w : Token) → step (expect.a-label ∷ K) (word w) ≡ on (this (code ":") ∷ a_type ∷ more-labels ∷ K)
+pub label_leads : (K : Stack) (w : Token) → step (expect.a_label ∷ K) (word w) ≡ on (this (code ":") ∷ a_type ∷ more_labels ∷ K)
 unfolding step
 label_leads K w = refl
 
-pub label-stuck : (K : Stack) (y : Symbol) → ((w : Token) → y ≡ word w → ⊥) → step (expect.a-label ∷ K) y ≡ stuck
+pub label-stuck : (K : Stack) (y : Symbol) → ((w : Token) → y ≡ word w → ⊥) → step (expect.a_label ∷ K) y ≡ stuck
 unfolding step
 label-stuck K (word w) n = absurd (n w refl)
 label-stuck K (reserved_word i) n = no-row i
 label-stuck K (one_byte b) n = no-row b
 
-pub more_closes : (K : Stack) → step (more-labels ∷ K) (one_byte (code "}")) ≡ on K
+pub more_closes : (K : Stack) → step (more_labels ∷ K) (one_byte (code "}")) ≡ on K
 unfolding step look
 more_closes K = refl
 
-pub more_bar : (K : Stack) → step (more-labels ∷ K) (one_byte (code "|")) ≡ on (expect.a-label ∷ K)
+pub more_bar : (K : Stack) → step (more_labels ∷ K) (one_byte (code "|")) ≡ on (expect.a_label ∷ K)
 unfolding step look
 more_bar K = refl
 
-pub more_stuck : (K : Stack) (y : Symbol) → (y ≡ one_byte (code "}") → ⊥) → (y ≡ one_byte (code "|") → ⊥) → step (more-labels ∷ K) y ≡ stuck
+pub more_stuck : (K : Stack) (y : Symbol) → (y ≡ one_byte (code "}") → ⊥) → (y ≡ one_byte (code "|") → ⊥) → step (more_labels ∷ K) y ≡ stuck
 unfolding step
 more_stuck K (word w) n m = refl
 more_stuck K (reserved_word i) n m = no-row i
@@ -103,6 +103,6 @@ pub bar : Plain (code "|")
 unfolding one_of first
 bar = record { byte = omega arith; no_opening = refl; no_closing = refl; no_node = refl }
 
-pub bar_next : next_symbol (one_byte (code "|")) ≡ a-label
+pub bar_next : next_symbol (one_byte (code "|")) ≡ a_label
 unfolding one_of first
 bar_next = refl

@@ -10,7 +10,7 @@ use Rattle.rules.specs.Tokens.{Token, word, one_byte, symbol, symbols}
 use Rattle.rules.specs.Notation.{Ty, last_label, label, sign, write_type}
 use Rattle.rules.specs.Numbers.{labels_most}
 use Rattle.rules.specs.Numbering.{behind}
-use Rattle.rules.specs.Refusals.{a-label, unexpected}
+use Rattle.rules.specs.Refusals.{a_label, unexpected}
 use Rattle.rules.proofs.Links.{behind_more}
 use Rattle.rules.proofs.Machine.{Stack}
 use Rattle.rules.proofs.Machine as expect
@@ -81,7 +81,7 @@ pub record Beginning (s : List ℕ) (c : Cursor) (deep : ℕ) : Type 0 where
   pub K : Stack
   pub ns : List (List ℕ)
   pub bs : List (List (List ℕ))
-  pub reached : Reached s (tokens_behind s c.at) (expect.a-label ∷ K) (counted a-label c.nodes ns ([] ∷ bs))
+  pub reached : Reached s (tokens_behind s c.at) (expect.a_label ∷ K) (counted a_label c.nodes ns ([] ∷ bs))
   pub depth : suc (length bs) ≡ deep
 
 labels_read :
@@ -99,7 +99,7 @@ pub record Turning (s a₀ b₀ a b : List ℕ) (deep node : ℕ) (c₀ c : Curs
   pub few : n ≤ labels_most
   pub reached :
       (z : Beginning s c₀ deep)
-      → Reached s (tokens_behind s c.at) (expect.a-label ∷ z.K) (counted a-label c.nodes z.ns (words_of s a (node * room + list_from) n ∷ z.bs))
+      → Reached s (tokens_behind s c.at) (expect.a_label ∷ z.K) (counted a_label c.nodes z.ns (words_of s a (node * room + list_from) n ∷ z.bs))
   pub whole :
       (z : Beginning s c₀ deep) (a' b' : List ℕ) (r : Got)
       → LabelsGot s a b a' b' (tokens_behind s c.at) z.K z.ns z.bs c.nodes c.uses node n r
@@ -148,7 +148,7 @@ module _ {s a₀ b₀ a b a₁ b₁ : List ℕ} {deep node : ℕ} {c₀ c : Curs
     module _ (q : t₁.kind ≡ code "|") where
       behind_bar :
           (z : Beginning s c₀ deep)
-          → Reached s (tokens_behind s t₁.next.at) (expect.a-label ∷ z.K) (counted a-label t₁.next.nodes z.ns (words_of s a₁ (node * room + list_from) (n + 1) ∷ z.bs))
+          → Reached s (tokens_behind s t₁.next.at) (expect.a_label ∷ z.K) (counted a_label t₁.next.nodes z.ns (words_of s a₁ (node * room + list_from) (n + 1) ∷ z.bs))
           × (symbols (tokens_behind s c₁.at) ≡ one_byte (code "|") ∷ symbols (tokens_behind s t₁.next.at))
       behind_bar z =
           let o = mark_taken k₁ q z.ns (words_of s a₁ (node * room + list_from) (n + 1) ∷ z.bs) bar (here z).right.reached (more_bar z.K) in

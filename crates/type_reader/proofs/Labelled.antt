@@ -18,11 +18,11 @@ use Rattle.rules.specs.Tokens.{Token, word, one_byte, symbol, symbols, tokens}
 use Rattle.rules.specs.Notation.{Ty}
 use Rattle.rules.specs.Numbers.{text_most, text_nodes_most, labels_most}
 use Rattle.rules.specs.Numbering.{behind}
-use Rattle.rules.specs.Refusals.{a-label, nothing-new, one_of, among, one_too_many, Seen}
+use Rattle.rules.specs.Refusals.{a_label, nothing_new, one_of, among, one_too_many, Seen}
 use Rattle.rules.specs.Refusals as refusal
 use Rattle.rules.specs.computed.Reading.{token_fault, lowest, if_so}
 use Rattle.rules.proofs.Links.{behind_more}
-use Rattle.rules.proofs.Machine.{this, a_type, more-labels, Stack}
+use Rattle.rules.proofs.Machine.{this, a_type, more_labels, Stack}
 use Rattle.rules.proofs.Machine as expect
 use Rattle.rules.proofs.Reached.{Reached, Refuses}
 use Rattle.rules.proofs.TokenLists.{token_spelling}
@@ -58,10 +58,10 @@ spelled_part {s} {t} r k =
 -- the limits of a label, none of 3 and 4
 label_fault :
     (u : Token) (n : ℕ) (ns es : List (List ℕ)) (bs : List (List (List ℕ))) → symbol u ≡ word u → length u.spelled ≤ word_most
-    → token_fault (counted a-label n ns (es ∷ bs)) u
+    → token_fault (counted a_label n ns (es ∷ bs)) u
     ≡ lowest false false (leb labels_most (length es)) (if_so (among es u.spelled) refusal.label_twice)
 unfolding one_of
-label_fault u n ns es bs e j = fault_symbol u (word u) e (counted a-label n ns (es ∷ bs)) j
+label_fault u n ns es bs e j = fault_symbol u (word u) e (counted a_label n ns (es ∷ bs)) j
 
 -- a label's row is written
 row_kept :
@@ -77,7 +77,7 @@ row_kept a node n t link to m l = record { each = go }
 refused-label :
     {s a b a' b' : List ℕ} {t : Taken} {deep node n m p : ℕ}
     → ((ts : List Token) (K : Stack) (ns : List (List ℕ)) (bs : List (List (List ℕ))) → Ahead s t ts
-    → Reached s ts (expect.a-label ∷ K) (counted a-label t.next.nodes ns (words_of s a (node * room + list_from) n ∷ bs))
+    → Reached s ts (expect.a_label ∷ K) (counted a_label t.next.nodes ns (words_of s a (node * room + list_from) n ∷ bs))
     → suc (length bs) ≡ deep → Refuses s m p)
     → LabelRead s a b a' b' t deep node n (Refused m p)
 refused-label f =
@@ -111,13 +111,13 @@ module _ {s : List ℕ} (l : length s ≤ text_most) where
   label-refused a b a' b' {t} {node = node} {n = n} (long_label e j) =
       refused-label (λ ts K ns bs h r q.
       let k = took_word h e in
-      took_fault k {L = this (code ":") ∷ a_type ∷ more-labels ∷ K} l r (label_leads K k.token)
-      (fault_long (counted a-label t.next.nodes ns (words_of s a (node * room + list_from) n ∷ bs)) k.token (omega (arith, k.long))))
+      took_fault k {L = this (code ":") ∷ a_type ∷ more_labels ∷ K} l r (label_leads K k.token)
+      (fault_long (counted a_label t.next.nodes ns (words_of s a (node * room + list_from) n ∷ bs)) k.token (omega (arith, k.long))))
   label-refused a b a' b' {t} {node = node} {n = n} (label_too_many e j m) =
       refused-label {m = one_too_many} (λ ts K ns bs h r q.
       let k = took_word h e in
       let es : List (List ℕ) = words_of s a (node * room + list_from) n in
-      took_fault k {L = this (code ":") ∷ a_type ∷ more-labels ∷ K} l r (label_leads K k.token)
+      took_fault k {L = this (code ":") ∷ a_type ∷ more_labels ∷ K} l r (label_leads K k.token)
       (label_fault k.token t.next.nodes ns es bs k.means (omega (arith, k.long))
       ∙ rw (le-leb labels_most (length es) (omega (arith, words_long s a (node * room + list_from) n))) refl))
   label-refused a b a' b' {t} {node = node} {n = n} (label_twice e j m i g f) =
@@ -125,7 +125,7 @@ module _ {s : List ℕ} (l : length s ≤ text_most) where
       let k = took_word h e in
       let es : List (List ℕ) = words_of s a (node * room + list_from) n in
       let y : among es k.token.spelled ≡ true = rw (spelled_part r k) (among_words s a (node * room + list_from) (part s t.at t.len) n i g f) in
-      took_fault k {L = this (code ":") ∷ a_type ∷ more-labels ∷ K} l r (label_leads K k.token)
+      took_fault k {L = this (code ":") ∷ a_type ∷ more_labels ∷ K} l r (label_leads K k.token)
       (label_fault k.token t.next.nodes ns es bs k.means (omega (arith, k.long))
       ∙ rw (lt-leb labels_most (length es) (omega (arith, words_long s a (node * room + list_from) n)), y) refl))
 
@@ -133,9 +133,9 @@ module _ {s : List ℕ} (l : length s ≤ text_most) where
   behind_label :
       (a : List ℕ) {t : Taken} (node n : ℕ) (g : NewLabel s a (node * room + list_from) t n) (ts : List Token) (K : Stack) (ns : List (List ℕ))
       (bs : List (List (List ℕ))) → Ahead s t ts
-      → Reached s ts (expect.a-label ∷ K) (counted a-label t.next.nodes ns (words_of s a (node * room + list_from) n ∷ bs))
-      → Reached s (tokens_behind s t.next.at) (this (code ":") ∷ a_type ∷ more-labels ∷ K)
-      (counted nothing-new t.next.nodes ns (labels_here s a (node * room + list_from) t n ∷ bs))
+      → Reached s ts (expect.a_label ∷ K) (counted a_label t.next.nodes ns (words_of s a (node * room + list_from) n ∷ bs))
+      → Reached s (tokens_behind s t.next.at) (this (code ":") ∷ a_type ∷ more_labels ∷ K)
+      (counted nothing_new t.next.nodes ns (labels_here s a (node * room + list_from) t n ∷ bs))
   unfolding one_of
   behind_label a {t} node n g ts K ns bs h r =
       let k = took_word h g.is_word in
@@ -143,10 +143,10 @@ module _ {s : List ℕ} (l : length s ≤ text_most) where
       let es : List (List ℕ) = words_of s a i n in
       let w = spelled_part r k in
       let y : among es k.token.spelled ≡ false = rw w (among-no_words s a i (part s t.at t.len) n g.new) in
-      let z : token_fault (counted a-label t.next.nodes ns (es ∷ bs)) k.token ≡ none =
+      let z : token_fault (counted a_label t.next.nodes ns (es ∷ bs)) k.token ≡ none =
       label_fault k.token t.next.nodes ns es bs k.means (omega (arith, k.long, g.short))
       ∙ rw (lt-leb labels_most (length es) (omega (arith, words_long s a i n, g.few)), y) refl in
-      let o = took_counted k a-label t.next.nodes ns (es ∷ bs) r (label_leads K k.token) z in
+      let o = took_counted k a_label t.next.nodes ns (es ∷ bs) r (label_leads K k.token) z in
       rw w at o
 
   module _ (a b : List ℕ) {t : Taken} (deep node n : ℕ) (g : NewLabel s a (node * room + list_from) t n) where
@@ -159,8 +159,8 @@ module _ {s : List ℕ} (l : length s ≤ text_most) where
     module _ {v₂ : ℕ} {c₂ : Cursor} {t₃ : Taken} (k : Signed s t.next (code ":") (Past v₂ c₂)) (k₃ : Takes s c₂ t₃) where
       behind_colon :
           (ts : List Token) (K : Stack) (ns : List (List ℕ)) (bs : List (List (List ℕ))) → Ahead s t ts
-          → Reached s ts (expect.a-label ∷ K) (counted a-label t.next.nodes ns (words_of s a (node * room + list_from) n ∷ bs))
-          → Reached s (tokens_behind s c₂.at) (a_type ∷ more-labels ∷ K) (counted nothing-new t₃.next.nodes ns (labels_here s a (node * room + list_from) t n ∷ bs))
+          → Reached s ts (expect.a_label ∷ K) (counted a_label t.next.nodes ns (words_of s a (node * room + list_from) n ∷ bs))
+          → Reached s (tokens_behind s c₂.at) (a_type ∷ more_labels ∷ K) (counted nothing_new t₃.next.nodes ns (labels_here s a (node * room + list_from) t n ∷ bs))
           × (symbols (tokens_behind s t.next.at) ≡ one_byte (code ":") ∷ symbols (tokens_behind s c₂.at))
       behind_colon ts K ns bs h r =
           let o = sign-past l t.next.nodes ns (labels_here s a (node * room + list_from) t n ∷ bs) colon k (behind_label a node n g ts K ns bs h r) in
@@ -169,11 +169,11 @@ module _ {s : List ℕ} (l : length s ≤ text_most) where
 
       label_type_told :
           {a₁ b₁ : List ℕ} {o : Got} (ts : List Token) (K : Stack) (ns : List (List ℕ)) (bs : List (List (List ℕ))) → TypeRead s a b a₁ b₁ t₃ deep o
-          → Ahead s t ts → Reached s ts (expect.a-label ∷ K) (counted a-label t.next.nodes ns (words_of s a (node * room + list_from) n ∷ bs))
+          → Ahead s t ts → Reached s ts (expect.a_label ∷ K) (counted a_label t.next.nodes ns (words_of s a (node * room + list_from) n ∷ bs))
           → suc (length bs) ≡ deep
-          → TypeGot s a b a₁ b₁ t₃ (tokens_behind s c₂.at) (more-labels ∷ K) nothing-new ns (labels_here s a (node * room + list_from) t n ∷ bs) o
+          → TypeGot s a b a₁ b₁ t₃ (tokens_behind s c₂.at) (more_labels ∷ K) nothing_new ns (labels_here s a (node * room + list_from) t n ∷ bs) o
       label_type_told ts K ns bs f h r q =
-          f.told (tokens_behind s c₂.at) a_type (more-labels ∷ K) (more-labels ∷ K) nothing-new ns (labels_here s a (node * room + list_from) t n ∷ bs) k₃.ahead (acts_self (a_type ∷ more-labels ∷ K) (tokens_behind s c₂.at)) (behind_colon ts K ns bs h r).0 alone q
+          f.told (tokens_behind s c₂.at) a_type (more_labels ∷ K) (more_labels ∷ K) nothing_new ns (labels_here s a (node * room + list_from) t n ∷ bs) k₃.ahead (acts_self (a_type ∷ more_labels ∷ K) (tokens_behind s c₂.at)) (behind_colon ts K ns bs h r).0 alone q
 
       pub label_type_refused :
           {a₁ b₁ : List ℕ} {q p : ℕ} → TypeRead s a b a₁ b₁ t₃ deep (Refused q p) → LabelRead s a b a₁ b₁ t deep node n (Refused q p)
@@ -183,8 +183,8 @@ module _ {s : List ℕ} (l : length s ≤ text_most) where
       module _ {a₁ b₁ : List ℕ} {link : ℕ} {c₃ : Cursor} (i : node < t.next.nodes) (few : c₃.nodes ≤ text_nodes_most) (long : length a₁ ≡ text_most) (a₂ : List ℕ) (st : a₂ ≡ stored_label a₁ node n t link) where
         row-past :
             {K L : Stack} {ns : List (List ℕ)} {bs bs₁ : List (List (List ℕ))} (u : Token) (x : Ty) → t.at ≡ u.at → t.len ≡ length u.spelled
-            → PastType s a b a₁ b₁ t₃ (tokens_behind s c₂.at) L nothing-new ns bs₁ x link c₃
-            → Reached s (tokens_behind s c₃.at) K (counted nothing-new c₃.nodes ns bs)
+            → PastType s a b a₁ b₁ t₃ (tokens_behind s c₂.at) L nothing_new ns bs₁ x link c₃
+            → Reached s (tokens_behind s c₃.at) K (counted nothing_new c₃.nodes ns bs)
             → PastList s a b a₂ b₁ K ns bs t.next.nodes t.next.uses (behind x t.next.nodes) (used x t.next.uses)
             (node * room + list_from + n * row) (node * room + room) (raw_row u x t.next.nodes t.next.uses [])
             (Stored a₂ b₁ x t.next.nodes t.next.uses) c₃
@@ -209,7 +209,7 @@ module _ {s : List ℕ} (l : length s ≤ text_most) where
         -- the labels so far, with this one
         words_next :
             {ns : List (List ℕ)} {bs₁ : List (List (List ℕ))} {L : Stack} (x : Ty)
-            → PastType s a b a₁ b₁ t₃ (tokens_behind s c₂.at) L nothing-new ns bs₁ x link c₃
+            → PastType s a b a₁ b₁ t₃ (tokens_behind s c₂.at) L nothing_new ns bs₁ x link c₃
             → words_of s a₂ (node * room + list_from) (n + 1) ≡ labels_here s a (node * room + list_from) t n
         words_next x p =
             let from : ℕ = node * room + list_from + n * row in

@@ -10,7 +10,7 @@ use lib.ListN.{length, get_or}
 use Rattle.rules.specs.Tokens.{Token, one_byte, symbols}
 use Rattle.rules.specs.Notation.{Ty}
 use Rattle.rules.specs.Numbering.{behind}
-use Rattle.rules.specs.Refusals.{Begins, nothing-new, entries_after, bracket_closed}
+use Rattle.rules.specs.Refusals.{Begins, nothing_new, entries_after, bracket_closed}
 use Rattle.rules.specs.computed.Reading.{token_fault}
 use Rattle.rules.proofs.Links.{behind_more}
 use Rattle.rules.proofs.Machine.{Stack, on, step}
@@ -38,7 +38,7 @@ module _ {s : List ℕ} {c : Cursor} {t : Taken} (k : Takes s c t) {b : ℕ} (e 
   -- the closing bracket
   pub list_closes :
       Closing b
-      → Reached s (tokens_behind s t.next.at) K (counted nothing-new t.next.nodes ns bs)
+      → Reached s (tokens_behind s t.next.at) K (counted nothing_new t.next.nodes ns bs)
       × (symbols (tokens_behind s c.at) ≡ one_byte b ∷ symbols (tokens_behind s t.next.at))
   list_closes p =
       let d = took_byte k.ahead b e p.byte in
@@ -54,21 +54,21 @@ module _ {s : List ℕ} {c : Cursor} {t : Taken} (k : Takes s c t) {b : ℕ} (e 
 -- a mark between two entries
 pub mark_taken :
     {s : List ℕ} {c : Cursor} {t : Taken} (k : Takes s c t) {b : ℕ} (e : t.kind ≡ b) {J K : Stack} (ns : List (List ℕ)) (bs : List (List (List ℕ)))
-    → Plain b → Reached s (tokens_behind s c.at) J (counted nothing-new c.nodes ns bs) → step J (one_byte b) ≡ on K
+    → Plain b → Reached s (tokens_behind s c.at) J (counted nothing_new c.nodes ns bs) → step J (one_byte b) ≡ on K
     → Reached s (tokens_behind s t.next.at) K (counted (next_symbol (one_byte b)) t.next.nodes ns bs)
     × (symbols (tokens_behind s c.at) ≡ one_byte b ∷ symbols (tokens_behind s t.next.at))
 mark_taken {s} {c} {t} k {b} e ns bs p r leads =
     let d = took_byte k.ahead b e p.byte in
-    let f : token_fault (counted nothing-new c.nodes ns bs) d.token ≡ none =
-    fault_here d.token (one_byte b) nothing-new c.nodes ns bs d.means (short_token k.ahead d (λ q. omega (arith, p.byte))) alone
+    let f : token_fault (counted nothing_new c.nodes ns bs) d.token ≡ none =
+    fault_here d.token (one_byte b) nothing_new c.nodes ns bs d.means (short_token k.ahead d (λ q. omega (arith, p.byte))) alone
     ∙ rw (p.no_opening, p.no_node) refl in
-    let g = took_counted d nothing-new c.nodes ns bs r leads f in
+    let g = took_counted d nothing_new c.nodes ns bs r leads f in
     (rw k.nodes (rw (nodes_same (one_byte b) c.nodes p.no_node, brackets_plain (one_byte b) bs p.no_opening p.no_closing) at g), took_symbols d)
 
 -- a list that ends here
 pub list_ended :
     {s : List ℕ} (a b : List ℕ) {c : Cursor} {t : Taken} → Takes s c t → {K : Stack} {ns : List (List ℕ)} {bs : List (List (List ℕ))} (from to : ℕ)
-    → Reached s (tokens_behind s t.next.at) K (counted nothing-new t.next.nodes ns bs)
+    → Reached s (tokens_behind s t.next.at) K (counted nothing_new t.next.nodes ns bs)
     → PastList s a b a b K ns bs c.nodes c.uses c.nodes c.uses from to [] (Unit {0}) t.next
 list_ended a b k from to r =
     record {
@@ -119,7 +119,7 @@ entry_then {a₁ = a₁} {a₂ = a₂} {from = from} cells more m n e o q p f z 
 pub entry_written :
     {s a b a₁ b₁ a₂ : List ℕ} {t : Taken} {ts : List Token} {K L : Stack} {nx : Begins} {ns : List (List ℕ)} {bs bs₁ : List (List (List ℕ))}
     {link k u from to : ℕ} {c : Cursor} (x : Ty) (cells : List ℕ) → t.next.nodes ≡ k → t.next.uses ≡ u → to ≤ k * room
-    → PastType s a b a₁ b₁ t ts L nx ns bs₁ x link c → Reached s (tokens_behind s c.at) K (counted nothing-new c.nodes ns bs)
+    → PastType s a b a₁ b₁ t ts L nx ns bs₁ x link c → Reached s (tokens_behind s c.at) K (counted nothing_new c.nodes ns bs)
     → KeptBut a₁ a₂ from to (behind x k * room) → Holds a₂ from cells
     → PastList s a b a₂ b₁ K ns bs k u (behind x k) (used x u) from to cells (Stored a₂ b₁ x k u) c
 entry_written {a = a} {b = b} {a₁ = a₁} {b₁ = b₁} {a₂ = a₂} {k = k} {u = u} x cells m n l p r one h =

@@ -13,9 +13,9 @@ use Rattle.rules.specs.Tokens.{Token, Symbol, one_byte, symbols}
 use Rattle.rules.specs.Notation.{Way, Ty, message, Items, write_items}
 use Rattle.rules.specs.Numbers.{text_most, text_nodes_most, items_most}
 use Rattle.rules.specs.Numbering.{behind, behind_items}
-use Rattle.rules.specs.Refusals.{Begins, an_item, nothing-new}
+use Rattle.rules.specs.Refusals.{Begins, an_item, nothing_new}
 use Rattle.rules.proofs.Links.{behind_more, behind_items_more}
-use Rattle.rules.proofs.Machine.{a_type, this, some-items, Stack, open_byte}
+use Rattle.rules.proofs.Machine.{a_type, this, some_items, Stack, open_byte}
 use Rattle.rules.proofs.Reached.{Reached, Refuses}
 use Rattle.rules.proofs.OneToken.{counted}
 use Rattle.rules.proofs.TokensBehind.{tokens_behind}
@@ -104,7 +104,7 @@ pub acts_self : (J : Stack) (ts : List Token) → Acts J J ts
 acts_self J [] = tt
 acts_self J (t ∷ ts) = refl
 
-message_shape : (d : Way) → Shape (message_byte d) (open_byte d) (λ K. some-items d ∷ this (code ";") ∷ a_type ∷ K)
+message_shape : (d : Way) → Shape (message_byte d) (open_byte d) (λ K. some_items d ∷ this (code ";") ∷ a_type ∷ K)
 message_shape d = record { byte = message_bytes d; node = message_begins d; bracket = open_items d; leads = message_step d }
 
 module _ {s : List ℕ} (l : length s ≤ text_most) (d : Way) {t : Taken} (e : t.kind ≡ message_byte d) {deep : ℕ} where
@@ -119,7 +119,7 @@ module _ {s : List ℕ} (l : length s ≤ text_most) (d : Way) {t : Taken} (e : 
       -- behind the bracket
       behind_opening :
           (z : Standing s t deep)
-          → Reached s (tokens_behind s c₂.at) (some-items d ∷ this (code ";") ∷ a_type ∷ z.K) (counted an_item c₂.nodes z.ns ([] ∷ inside z))
+          → Reached s (tokens_behind s c₂.at) (some_items d ∷ this (code ";") ∷ a_type ∷ z.K) (counted an_item c₂.nodes z.ns ([] ∷ inside z))
           × (symbols (tokens_behind s t.next.at) ≡ one_byte (open_byte d) ∷ symbols (tokens_behind s c₂.at))
       behind_opening z =
           let r = behind_bracket l (message_shape d) e q o z in
@@ -147,7 +147,7 @@ module _ {s : List ℕ} (l : length s ≤ text_most) (d : Way) {t : Taken} (e : 
           -- behind the semicolon
           behind_semicolon :
               (z : Standing s t deep)
-              → Reached s (tokens_behind s c₄.at) (a_type ∷ z.K) (counted nothing-new t₅.next.nodes z.ns (inside z))
+              → Reached s (tokens_behind s c₄.at) (a_type ∷ z.K) (counted nothing_new t₅.next.nodes z.ns (inside z))
               × (symbols (tokens_behind s c₃.at) ≡ one_byte (code ";") ∷ symbols (tokens_behind s c₄.at))
           behind_semicolon z =
               let h = sign-past l c₃.nodes z.ns (inside z) semicolon g (behind_items_read z).right.reached in
@@ -156,9 +156,9 @@ module _ {s : List ℕ} (l : length s ≤ text_most) (d : Way) {t : Taken} (e : 
 
           type_told :
               {a₂ b₂ : List ℕ} {r : Got} (z : Standing s t deep) → TypeRead s a₁ b₁ a₂ b₂ t₅ deep r
-              → TypeGot s a₁ b₁ a₂ b₂ t₅ (tokens_behind s c₄.at) z.K nothing-new z.ns (inside z) r
+              → TypeGot s a₁ b₁ a₂ b₂ t₅ (tokens_behind s c₄.at) z.K nothing_new z.ns (inside z) r
           type_told z y =
-              y.told (tokens_behind s c₄.at) a_type z.K z.K nothing-new z.ns (inside z) k.ahead (acts_self (a_type ∷ z.K) (tokens_behind s c₄.at)) (behind_semicolon z).0 alone (inside_deep z)
+              y.told (tokens_behind s c₄.at) a_type z.K z.K nothing_new z.ns (inside z) k.ahead (acts_self (a_type ∷ z.K) (tokens_behind s c₄.at)) (behind_semicolon z).0 alone (inside_deep z)
 
           pub message_type_refused :
               {a₂ b₂ : List ℕ} {m p : ℕ} → TypeRead s a₁ b₁ a₂ b₂ t₅ deep (Refused m p) → TypeRead s a b a₂ b₂ t deep (Refused m p)
@@ -167,7 +167,7 @@ module _ {s : List ℕ} (l : length s ≤ text_most) (d : Way) {t : Taken} (e : 
           module _ {a₂ b₂ : List ℕ} {link : ℕ} {c₅ : Cursor} (m : length a₂ ≡ text_most) (nd : node ≡ t.next.nodes) where
             done_past :
                 (z : Standing s t deep) (x : Ty)
-                → PastType s a₁ b₁ a₂ b₂ t₅ (tokens_behind s c₄.at) z.K nothing-new z.ns (inside z) x link c₅
+                → PastType s a₁ b₁ a₂ b₂ t₅ (tokens_behind s c₄.at) z.K nothing_new z.ns (inside z) x link c₅
                 → (a₃ : List ℕ) → a₃ ≡ stored_head a₂ node (message_number d) n link
                 → PastType s a b a₃ b₂ t z.ts z.K z.nx z.ns z.bs (message d (behind_items_read z).items x) node c₅
             done_past z x p a₃ st =

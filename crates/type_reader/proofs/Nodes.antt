@@ -8,7 +8,7 @@ use lib.ListN.{length}
 use Rattle.rules.specs.Words.{word_most}
 use Rattle.rules.specs.Tokens.{one_byte, symbols}
 use Rattle.rules.specs.Numbers.{text_most, text_nodes_most}
-use Rattle.rules.specs.Refusals.{nothing-new}
+use Rattle.rules.specs.Refusals.{nothing_new}
 use Rattle.rules.proofs.Machine.{a_type, this, Stack, on, step}
 use Rattle.rules.proofs.Reached.{Reached}
 use Rattle.rules.proofs.OneToken.{counted, next_symbol}
@@ -54,7 +54,7 @@ module _ {s : List ℕ} (l : length s ≤ text_most) {b o : ℕ} {Inner : Stack 
 
   behind_sign :
       (z : Standing s t deep) → t.next.nodes < text_nodes_most
-      → Reached s (tokens_behind s t.next.at) (this o ∷ Inner z.K) (counted nothing-new (t.next.nodes + 1) z.ns (inside z))
+      → Reached s (tokens_behind s t.next.at) (this o ∷ Inner z.K) (counted nothing_new (t.next.nodes + 1) z.ns (inside z))
   behind_sign z q =
       let n = g.node in
       node_reached l (one_byte b) n.no_opening n.no_closing n.begins n.goes_on (sign_took z) (sign_short z) t.next.nodes z.ns z.fits q z.reached (sign-step z)

@@ -13,7 +13,7 @@ use lib.ListN.{length}
 use Rattle.rules.specs.Words.{word_most}
 use Rattle.rules.specs.Tokens.{Token, Symbol, word, reserved_word, one_byte, symbol, symbols}
 use Rattle.rules.specs.Numbers.{text_most, brackets_most}
-use Rattle.rules.specs.Refusals.{nothing-new, Seen}
+use Rattle.rules.specs.Refusals.{nothing_new, Seen}
 use Rattle.rules.specs.computed.Reading.{token_fault, lowest}
 use Rattle.rules.proofs.Machine.{this, Stack, stuck, look, step}
 use Rattle.rules.proofs.Reached.{Reached, Refuses}
@@ -60,23 +60,23 @@ pub record Plain (b : ℕ) : Type 0 where
   pub no_node : begins_symbol (one_byte b) ≡ false
 
 module _ {s : List ℕ} (l : length s ≤ text_most) {c : Cursor} {b : ℕ} {K : Stack} (n : ℕ) (ns : List (List ℕ)) (bs : List (List (List ℕ))) where
-  pub sign-refused : {m p : ℕ} → b < reserved_kind → Signed s c b (Refused m p) → Reached s (tokens_behind s c.at) (this b ∷ K) (counted nothing-new n ns bs) → Refuses s m p
+  pub sign-refused : {m p : ℕ} → b < reserved_kind → Signed s c b (Refused m p) → Reached s (tokens_behind s c.at) (this b ∷ K) (counted nothing_new n ns bs) → Refuses s m p
   sign-refused q (not_signed t e) r = other_byte l q t.ahead e r
 
   sign_here :
-      {t : Taken} → Plain b → Takes s c t → t.kind ≡ b → Reached s (tokens_behind s c.at) (this b ∷ K) (counted nothing-new n ns bs)
+      {t : Taken} → Plain b → Takes s c t → t.kind ≡ b → Reached s (tokens_behind s c.at) (this b ∷ K) (counted nothing_new n ns bs)
       → Reached s (tokens_behind s t.next.at) K (counted (next_symbol (one_byte b)) n ns bs)
       × (symbols (tokens_behind s c.at) ≡ one_byte b ∷ symbols (tokens_behind s t.next.at))
   sign_here {t} p k e r =
       let d = took_byte k.ahead b e p.byte in
-      let f : token_fault (counted nothing-new n ns bs) d.token ≡ none =
-      fault_here d.token (one_byte b) nothing-new n ns bs d.means (short_token k.ahead d (λ q. omega (arith, p.byte))) alone
+      let f : token_fault (counted nothing_new n ns bs) d.token ≡ none =
+      fault_here d.token (one_byte b) nothing_new n ns bs d.means (short_token k.ahead d (λ q. omega (arith, p.byte))) alone
       ∙ rw (p.no_opening, p.no_node) refl in
-      let g = took_counted d nothing-new n ns bs r (this_step b K) f in
+      let g = took_counted d nothing_new n ns bs r (this_step b K) f in
       (rw (nodes_same (one_byte b) n p.no_node, brackets_plain (one_byte b) bs p.no_opening p.no_closing) at g, took_symbols d)
 
   pub sign-past :
-      {v : ℕ} {c' : Cursor} → Plain b → Signed s c b (Past v c') → Reached s (tokens_behind s c.at) (this b ∷ K) (counted nothing-new n ns bs)
+      {v : ℕ} {c' : Cursor} → Plain b → Signed s c b (Past v c') → Reached s (tokens_behind s c.at) (this b ∷ K) (counted nothing_new n ns bs)
       → Reached s (tokens_behind s c'.at) K (counted (next_symbol (one_byte b)) n ns bs)
       × (symbols (tokens_behind s c.at) ≡ one_byte b ∷ symbols (tokens_behind s c'.at))
   sign-past p (signed t e) r = sign_here p t e r
@@ -90,30 +90,30 @@ pub record Opening (b : ℕ) : Type 0 where
 bracket_fault :
     {s : List ℕ} {c : Cursor} {t : Taken} {b : ℕ} (o : Opening b) (n : ℕ) (ns : List (List ℕ)) (bs : List (List (List ℕ))) (k : Takes s c t)
     (e : t.kind ≡ b) (f : Bool) → leb brackets_most (length bs) ≡ f
-    → token_fault (counted nothing-new n ns bs) (took_byte k.ahead b e o.byte).token ≡ lowest false f false none
+    → token_fault (counted nothing_new n ns bs) (took_byte k.ahead b e o.byte).token ≡ lowest false f false none
 bracket_fault {b} o n ns bs k e f i =
     let d = took_byte k.ahead b e o.byte in
-    fault_here d.token (one_byte b) nothing-new n ns bs d.means (short_token k.ahead d (λ q. omega (arith, o.byte))) alone
+    fault_here d.token (one_byte b) nothing_new n ns bs d.means (short_token k.ahead d (λ q. omega (arith, o.byte))) alone
     ∙ rw (o.opening, o.no_node, i) refl
 
 module _ {s : List ℕ} (l : length s ≤ text_most) {c : Cursor} {b deep : ℕ} {K : Stack} (o : Opening b) (n : ℕ) (ns : List (List ℕ)) (bs : List (List (List ℕ))) (h : length bs ≡ deep) where
   pub bracket_refused :
-      {m p : ℕ} → Opened s c b deep (Refused m p) → Reached s (tokens_behind s c.at) (this b ∷ K) (counted nothing-new n ns bs) → Refuses s m p
+      {m p : ℕ} → Opened s c b deep (Refused m p) → Reached s (tokens_behind s c.at) (this b ∷ K) (counted nothing_new n ns bs) → Refuses s m p
   bracket_refused (not_opened t e) r = other_byte l o.byte t.ahead e r
   bracket_refused (too_deep t e j) r =
       took_fault (took_byte t.ahead b e o.byte) l r (this_step b K) (bracket_fault o n ns bs t e true (le-leb brackets_most (length bs) (omega arith)))
 
   bracket_here :
-      {t : Taken} → Takes s c t → t.kind ≡ b → deep < brackets_most → Reached s (tokens_behind s c.at) (this b ∷ K) (counted nothing-new n ns bs)
+      {t : Taken} → Takes s c t → t.kind ≡ b → deep < brackets_most → Reached s (tokens_behind s c.at) (this b ∷ K) (counted nothing_new n ns bs)
       → Reached s (tokens_behind s t.next.at) K (counted (next_symbol (one_byte b)) n ns ([] ∷ bs))
       × (symbols (tokens_behind s c.at) ≡ one_byte b ∷ symbols (tokens_behind s t.next.at))
   bracket_here {t} k e j r =
       let d = took_byte k.ahead b e o.byte in
-      let g = took_counted d nothing-new n ns bs r (this_step b K) (bracket_fault o n ns bs k e false (lt-leb brackets_most (length bs) (omega arith))) in
+      let g = took_counted d nothing_new n ns bs r (this_step b K) (bracket_fault o n ns bs k e false (lt-leb brackets_most (length bs) (omega arith))) in
       (rw (nodes_same (one_byte b) n o.no_node, brackets_opened (one_byte b) bs o.opening) at g, took_symbols d)
 
   pub bracket_past :
-      {v : ℕ} {c' : Cursor} → Opened s c b deep (Past v c') → Reached s (tokens_behind s c.at) (this b ∷ K) (counted nothing-new n ns bs)
+      {v : ℕ} {c' : Cursor} → Opened s c b deep (Past v c') → Reached s (tokens_behind s c.at) (this b ∷ K) (counted nothing_new n ns bs)
       → Reached s (tokens_behind s c'.at) K (counted (next_symbol (one_byte b)) n ns ([] ∷ bs))
       × (symbols (tokens_behind s c.at) ≡ one_byte b ∷ symbols (tokens_behind s c'.at))
   bracket_past (opened t e j) r = bracket_here t e j r

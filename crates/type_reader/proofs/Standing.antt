@@ -10,7 +10,7 @@ use lib.ListN.{length}
 use Rattle.rules.specs.Basics.{first}
 use Rattle.rules.specs.Tokens.{Token, Symbol, one_byte}
 use Rattle.rules.specs.Notation.{Way, into, out, message_sign, choice_sign, opening}
-use Rattle.rules.specs.Refusals.{Begins, an_item, a-label, nothing-new, one_of, entries_after}
+use Rattle.rules.specs.Refusals.{Begins, an_item, a_label, nothing_new, one_of, entries_after}
 use Rattle.rules.proofs.Machine.{Expect, a_type, Stack, on, look, step, in_message, in_choice, open_byte}
 use Rattle.rules.proofs.Reached.{Reached}
 use Rattle.rules.proofs.OneToken.{counted, opens_symbol, closes_symbol, begins_symbol, next_symbol}
@@ -58,7 +58,7 @@ pub record NodeSign (y : Symbol) : Type 0 where
   pub no_opening : opens_symbol y ≡ false
   pub no_closing : closes_symbol y ≡ false
   pub begins : begins_symbol y ≡ true
-  pub goes_on : next_symbol y ≡ nothing-new
+  pub goes_on : next_symbol y ≡ nothing_new
 
 pub message_begins : (d : Way) → NodeSign (one_byte (message_byte d))
 unfolding one_of first
@@ -110,7 +110,7 @@ pub open_labels : Opening (code "{")
 unfolding one_of first
 open_labels = record { byte = omega arith; opening = refl; no_node = refl }
 
-pub labels_next : next_symbol (one_byte (code "{")) ≡ a-label
+pub labels_next : next_symbol (one_byte (code "{")) ≡ a_label
 unfolding one_of first
 labels_next = refl
 
@@ -118,7 +118,7 @@ pub semicolon : Plain (code ";")
 unfolding one_of first
 semicolon = record { byte = omega arith; no_opening = refl; no_closing = refl; no_node = refl }
 
-pub semicolon_next : next_symbol (one_byte (code ";")) ≡ nothing-new
+pub semicolon_next : next_symbol (one_byte (code ";")) ≡ nothing_new
 unfolding one_of first
 semicolon_next = refl
 
@@ -126,7 +126,7 @@ pub colon : Plain (code ":")
 unfolding one_of first
 colon = record { byte = omega arith; no_opening = refl; no_closing = refl; no_node = refl }
 
-pub colon_next : next_symbol (one_byte (code ":")) ≡ nothing-new
+pub colon_next : next_symbol (one_byte (code ":")) ≡ nothing_new
 unfolding one_of first
 colon_next = refl
 

@@ -30,11 +30,11 @@ module _ {s a b : List ℕ} {t : Taken} (deep : ℕ) (r : TokenReady s a b t) {r
   short = r.ready.short
 
   module _ {n p : ℕ} (e : r₁ ≡ Refused n p) {a' b' : List ℕ} where
-    pub message-told₁ : (d : Way) → t.kind ≡ message_byte d → TypeRead s a b a' b' t deep r₁
-    message-told₁ d k = rw e (message_full short d k (rw e at g₁))
+    pub message_told₁ : (d : Way) → t.kind ≡ message_byte d → TypeRead s a b a' b' t deep r₁
+    message_told₁ d k = rw e (message_full short d k (rw e at g₁))
 
-    pub choice-told₁ : (d : Way) → t.kind ≡ choice_byte d → TypeRead s a b a' b' t deep r₁
-    choice-told₁ d k = rw e (choice_full short d k (rw e at g₁))
+    pub choice_told₁ : (d : Way) → t.kind ≡ choice_byte d → TypeRead s a b a' b' t deep r₁
+    choice_told₁ d k = rw e (choice_full short d k (rw e at g₁))
 
   module _ {node : ℕ} {c₁ : Cursor} (e₁ : r₁ ≡ Past node c₁) where
     begins : BegunReady s a b t node c₁
@@ -48,55 +48,55 @@ module _ {s a b : List ℕ} {t : Taken} (deep : ℕ) (r : TokenReady s a b t) {r
       opening_at q = rw (begins.behind, q) at g₂
 
       module _ {n p : ℕ} (e : r₂ ≡ Refused n p) {a' b' : List ℕ} where
-        pub message-told₂ : (d : Way) → t.kind ≡ message_byte d → o ≡ open_byte d → TypeRead s a b a' b' t deep r₂
-        message-told₂ d k q = let h = opening_at q in rw e (message_unopened short d k few (rw e at h))
+        pub message_told₂ : (d : Way) → t.kind ≡ message_byte d → o ≡ open_byte d → TypeRead s a b a' b' t deep r₂
+        message_told₂ d k q = let h = opening_at q in rw e (message_unopened short d k few (rw e at h))
 
-        pub choice-told₂ : (d : Way) → t.kind ≡ choice_byte d → o ≡ code "{" → TypeRead s a b a' b' t deep r₂
-        choice-told₂ d k q = let h = opening_at q in rw e (choice_unopened short d k few (rw e at h))
+        pub choice_told₂ : (d : Way) → t.kind ≡ choice_byte d → o ≡ code "{" → TypeRead s a b a' b' t deep r₂
+        choice_told₂ d k q = let h = opening_at q in rw e (choice_unopened short d k few (rw e at h))
 
       module _ {v₂ : ℕ} {c₂ : Cursor} (e₂ : r₂ ≡ Past v₂ c₂) where
         opens : {x : ℕ} → o ≡ x → Opened s (behind_node t.next) x deep (Past v₂ c₂)
         opens q = let h = opening_at q in rw e₂ at h
 
         module _ {closing : ℕ} {a₁ b₁ : List ℕ} {r₃ : Got} (g₃ : (d : Way) → closing ≡ close_byte d → ItemsRead s a b a₁ b₁ d c₂ (deep + 1) node r₃) where
-          pub message-told₃ :
+          pub message_told₃ :
               {n p : ℕ} → r₃ ≡ Refused n p → (d : Way) → t.kind ≡ message_byte d → o ≡ open_byte d → closing ≡ close_byte d
               → TypeRead s a b a₁ b₁ t deep r₃
-          message-told₃ e d k q x = let h = g₃ d x in rw e (message_items_refused short d k few (opens q) (rw e at h))
+          message_told₃ e d k q x = let h = g₃ d x in rw e (message_items_refused short d k few (opens q) (rw e at h))
 
           module _ {n : ℕ} {c₃ : Cursor} (e₃ : r₃ ≡ Past n c₃) {r₄ : Got} (g₄ : Signed s c₃ (code ";") r₄) where
             items : (d : Way) → closing ≡ close_byte d → ItemsRead s a b a₁ b₁ d c₂ (deep + 1) node (Past n c₃)
             items d x = let h = g₃ d x in rw e₃ at h
 
-            pub message-told₄ :
+            pub message_told₄ :
                 {m p : ℕ} → r₄ ≡ Refused m p → {a' b' : List ℕ} (d : Way) → t.kind ≡ message_byte d → o ≡ open_byte d → closing ≡ close_byte d
                 → TypeRead s a b a' b' t deep r₄
-            message-told₄ e d k q x = rw e (message_semicolon_refused short d k few (opens q) (items d x) (rw e at g₄))
+            message_told₄ e d k q x = rw e (message_semicolon_refused short d k few (opens q) (items d x) (rw e at g₄))
 
             module _ {v₄ : ℕ} {c₄ : Cursor} (e₄ : r₄ ≡ Past v₄ c₄) {t₅ : Taken} (k₅ : Takes s c₄ t₅) {a₂ b₂ : List ℕ} {r₅ : Got} (g₅ : TypeRead s a₁ b₁ a₂ b₂ t₅ deep r₅) where
               semicolon : Signed s c₃ (code ";") (Past v₄ c₄)
               semicolon = rw e₄ at g₄
 
-              pub message-told₅ :
+              pub message_told₅ :
                   {m p : ℕ} → r₅ ≡ Refused m p → (d : Way) → t.kind ≡ message_byte d → o ≡ open_byte d → closing ≡ close_byte d
                   → TypeRead s a b a₂ b₂ t deep r₅
-              message-told₅ e d k q x = rw e (message_type_refused short d k few (opens q) (items d x) semicolon k₅ (rw e at g₅))
+              message_told₅ e d k q x = rw e (message_type_refused short d k few (opens q) (items d x) semicolon k₅ (rw e at g₅))
 
-              pub message-told₆ :
+              pub message_told₆ :
                   {link : ℕ} {c₅ : Cursor} → r₅ ≡ Past link c₅ → length a₂ ≡ text_most → {a₃ : List ℕ} {kind : ℕ} → a₃ ≡ stored_head a₂ node kind n link
                   → (d : Way) → t.kind ≡ message_byte d → o ≡ open_byte d → closing ≡ close_byte d → kind ≡ message_number d
                   → TypeRead s a b a₃ b₂ t deep (Past node c₅)
-              message-told₆ e m st d k q x y =
+              message_told₆ e m st d k q x y =
                   message_done short d k few (opens q) (items d x) semicolon k₅ m begins.number (rw e at g₅) (rw y at st)
 
         module _ {a₁ b₁ : List ℕ} {r₃ : Got} (g₃ : LabelsRead s a b a₁ b₁ c₂ (deep + 1) node r₃) where
-          pub choice-told₃ : {n p : ℕ} → r₃ ≡ Refused n p → (d : Way) → t.kind ≡ choice_byte d → o ≡ code "{" → TypeRead s a b a₁ b₁ t deep r₃
-          choice-told₃ e d k q = rw e (choice_labels_refused short d k few (opens q) (rw e at g₃))
+          pub choice_told₃ : {n p : ℕ} → r₃ ≡ Refused n p → (d : Way) → t.kind ≡ choice_byte d → o ≡ code "{" → TypeRead s a b a₁ b₁ t deep r₃
+          choice_told₃ e d k q = rw e (choice_labels_refused short d k few (opens q) (rw e at g₃))
 
-          pub choice-told₄ :
+          pub choice_told₄ :
               {n : ℕ} {c₃ : Cursor} → r₃ ≡ Past n c₃ → length a₁ ≡ text_most → {a₂ : List ℕ} {kind : ℕ} → a₂ ≡ stored_head a₁ node kind n 0 → (d : Way)
               → t.kind ≡ choice_byte d → o ≡ code "{" → kind ≡ choice_number d → TypeRead s a b a₂ b₁ t deep (Past node c₃)
-          choice-told₄ e m st d k q y = choice_done short d k few (opens q) m begins.number (rw e at g₃) (rw y at st)
+          choice_told₄ e m st d k q y = choice_done short d k few (opens q) m begins.number (rw e at g₃) (rw y at st)
 
 -- an item
 module _ {s a b : List ℕ} {t : Taken} (deep node n : ℕ) (r : TokenReady s a b t) {r₁ : Got} (g₁ : ItemBegun t n r₁) where

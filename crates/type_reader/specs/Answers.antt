@@ -7,7 +7,7 @@ use Rattle.rules.specs.Tokens.{Token, Symbol, word, reserved_word, symbol, symbo
 use Rattle.rules.specs.Notation.{Way, into, out, Ty, Items, Labels, sign, sort_position, write_type, write_items, write_labels}
 use Rattle.rules.specs.Numbers.{text_most, text_nodes_most, labels_most, items_most}
 use Rattle.rules.specs.Numbering.{behind, behind_items, behind_labels}
-use Rattle.rules.specs.Refusals.{Begins, a-label, an_item, nothing-new, innermost, entries_after}
+use Rattle.rules.specs.Refusals.{Begins, a_label, an_item, nothing_new, innermost, entries_after}
 use Rattle.rules.proofs.Machine.{Expect, Stack, step}
 use Rattle.rules.proofs.Machine as expect
 use Rattle.rules.proofs.Reached.{Reached, Refuses}
@@ -53,7 +53,7 @@ first_spelled (t ∷ ts) = t.spelled
 
 -- a type begins behind a sign, or as an item where there is room for one
 pub data TypeRoom : Begins → List (List (List ℕ)) → Type 0 where
-  alone : {bs : List (List (List ℕ))} → TypeRoom nothing-new bs
+  alone : {bs : List (List (List ℕ))} → TypeRoom nothing_new bs
   as_item : {bs : List (List (List ℕ))} → length (innermost bs) < items_most → TypeRoom an_item bs
 
 -- Areas before and after: nodes in a and then a', uses in b and then b'.
@@ -61,7 +61,7 @@ module _ (s a b a' b' : List ℕ) where
   -- the type x was read at t: its tokens stand first in ts, and it is kept in the areas
   pub record PastType (t : Taken) (ts : List Token) (K : Stack) (nx : Begins) (ns : List (List ℕ)) (bs : List (List (List ℕ))) (x : Ty) (v : ℕ) (c : Cursor) : Type 0 where
     pub written : symbols ts ≡ write_type x (symbols (tokens_behind s c.at))
-    pub reached : Reached s (tokens_behind s c.at) K (counted nothing-new c.nodes ns (entries_after nx (first_spelled ts) bs))
+    pub reached : Reached s (tokens_behind s c.at) K (counted nothing_new c.nodes ns (entries_after nx (first_spelled ts) bs))
     pub link : v ≡ raw x t.next.nodes t.next.uses
     pub nodes : c.nodes ≡ behind x t.next.nodes
     pub uses : c.uses ≡ used x t.next.uses
@@ -82,7 +82,7 @@ module _ (s a b a' b' : List ℕ) where
   -- A list was read: what is left of it at the cursor c, of which the numbers `cells` stand from `from` on in the room of its node that ends at
   -- `to`; `k` and `u` count the nodes and uses before it, `k'` and `u'` those behind it.
   pub record PastList (K : Stack) (ns : List (List ℕ)) (bs : List (List (List ℕ))) (k u k' u' from to : ℕ) (cells : List ℕ) (Store : Type 0) (c : Cursor) : Type 0 where
-    pub reached : Reached s (tokens_behind s c.at) K (counted nothing-new c.nodes ns bs)
+    pub reached : Reached s (tokens_behind s c.at) K (counted nothing_new c.nodes ns bs)
     pub nodes : c.nodes ≡ k'
     pub uses : c.uses ≡ u'
     pub holds : Holds a' from cells
@@ -106,13 +106,13 @@ module _ (s a b a' b' : List ℕ) where
   pub record ItemsRead (d : Way) (c : Cursor) (deep node : ℕ) (r : Got) : Type 0 where
     pub told :
         (K : Stack) (ns : List (List ℕ)) (bs : List (List (List ℕ)))
-        → Reached s (tokens_behind s c.at) (expect.some-items d ∷ K) (counted an_item c.nodes ns ([] ∷ bs)) → suc (length bs) ≡ deep
+        → Reached s (tokens_behind s c.at) (expect.some_items d ∷ K) (counted an_item c.nodes ns ([] ∷ bs)) → suc (length bs) ≡ deep
         → ItemsGot (λ xs k. symbols (tokens_behind s c.at) ≡ write_items d xs k) K ns bs c.nodes c.uses node 0 r
 
   -- one item, the first of the tokens ts: its number `cell` stands behind n others, and those behind it may follow
   abbrev pub PastItem : Way → List Token → Stack → List (List ℕ) → List (List ℕ) → List (List (List ℕ)) → ℕ → ℕ → ℕ → ℕ → ℕ → ℕ → ℕ → Type 0 → Cursor → Type 0
   PastItem d ts K ns es bs k u node n k' u' cell Store c =
-      PastList (expect.more-items d ∷ K) ns ((first_spelled ts ∷ es) ∷ bs) k u k' u' (node * room + list_from + n) (node * room + room) (cell ∷ [])
+      PastList (expect.more_items d ∷ K) ns ((first_spelled ts ∷ es) ∷ bs) k u k' u' (node * room + list_from + n) (node * room + room) (cell ∷ [])
       Store c
 
   pub data ItemGot (d : Way) (ts : List Token) (K : Stack) (ns es : List (List ℕ)) (bs : List (List (List ℕ))) (k u node n : ℕ) : Got → Type 0 where
@@ -148,13 +148,13 @@ module _ (s a b a' b' : List ℕ) where
   pub record LabelsRead (c : Cursor) (deep node : ℕ) (r : Got) : Type 0 where
     pub told :
         (K : Stack) (ns : List (List ℕ)) (bs : List (List (List ℕ)))
-        → Reached s (tokens_behind s c.at) (expect.a-label ∷ K) (counted a-label c.nodes ns ([] ∷ bs)) → suc (length bs) ≡ deep
+        → Reached s (tokens_behind s c.at) (expect.a_label ∷ K) (counted a_label c.nodes ns ([] ∷ bs)) → suc (length bs) ≡ deep
         → LabelsGot (tokens_behind s c.at) K ns bs c.nodes c.uses node 0 r
 
   -- one label, which is w and has the type x: its row stands behind n others, and those behind it may follow
   abbrev pub PastLabel : Stack → List (List ℕ) → List (List (List ℕ)) → ℕ → ℕ → ℕ → ℕ → Token → Ty → Cursor → Type 0
   PastLabel K ns bs k u node n w x c =
-      PastList (expect.more-labels ∷ K) ns (words_of s a' (node * room + list_from) (n + 1) ∷ bs) k u (behind x k) (used x u)
+      PastList (expect.more_labels ∷ K) ns (words_of s a' (node * room + list_from) (n + 1) ∷ bs) k u (behind x k) (used x u)
       (node * room + list_from + n * row) (node * room + room) (raw_row w x k u []) (Stored a' b' x k u) c
 
   pub data LabelGot (ts : List Token) (K : Stack) (ns : List (List ℕ)) (bs : List (List (List ℕ))) (k u node n : ℕ) : Got → Type 0 where
@@ -168,7 +168,7 @@ module _ (s a b a' b' : List ℕ) where
     pub told :
         (ts : List Token) (K : Stack) (ns : List (List ℕ)) (bs : List (List (List ℕ)))
         → Ahead s t ts
-        → Reached s ts (expect.a-label ∷ K) (counted a-label t.next.nodes ns (words_of s a (node * room + list_from) n ∷ bs))
+        → Reached s ts (expect.a_label ∷ K) (counted a_label t.next.nodes ns (words_of s a (node * room + list_from) n ∷ bs))
         → suc (length bs) ≡ deep → LabelGot ts K ns bs t.next.nodes t.next.uses node n r
 
 -- the byte of a message's sign, and of a choice's

@@ -19,7 +19,7 @@ well-formed-requires c κs = search rules
 returns_2 : tie.Need-returns-2
 returns_2 c =
     let a = c.before.before.before.before.before.before.args in
-    sym (new_unformed a.t1 a.new-names.now _ _ a.found (sym c.before.well_formed.ensures ∙ not-true _ c.if2.taken))
+    sym (new_unformed a.t1 a.new_names.now _ _ a.found (sym c.before.well_formed.ensures ∙ not-true _ c.if2.taken))
 
 well-formed-requires-2 : tie.Need-well-formed-requires-2
 well-formed-requires-2 c κs = search rules
@@ -27,7 +27,7 @@ well-formed-requires-2 c κs = search rules
 returns-3 : tie.Need-returns-3
 returns-3 c =
     let a = c.before.before.before.before.before.before.before.before.args in
-    sym (old_unformed _ _ a.t3 a.old-names.now a.found (sym c.before.well-formed2.ensures ∙ not-true _ c.if3.taken))
+    sym (old_unformed _ _ a.t3 a.old_names.now a.found (sym c.before.well-formed2.ensures ∙ not-true _ c.if3.taken))
 
 cast-if4 : tie.Need-cast-if4
 cast-if4 c = search rules
@@ -92,7 +92,7 @@ returns-7 c =
     sym c.before.before.before.before.before.before.before.before.well-formed2.ensures
     ∙ not-false _ c.before.before.before.before.before.before.before.if3.left in
     c.nodes-fit.ensures
-    ∙ sym (fits_by_nodes a.t1 a.new-names.now a.t3 a.old-names.now a.found (omega arith) new_formed old_formed
+    ∙ sym (fits_by_nodes a.t1 a.new_names.now a.t3 a.old_names.now a.found (omega arith) new_formed old_formed
     (omega arith) (omega arith) (omega arith))
 
 pub found_fits_spec : {M : Type 1} → statement M

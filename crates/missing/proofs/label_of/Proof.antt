@@ -15,7 +15,7 @@ spelling-at-requires c κs = search rules
 returns : tie.Need-returns
 returns c =
     let a = c.before.before.before.before.before.args in
-    spelled_by_new a.new a.new-names.now a.old a.old-names.now a.turn a.detail
+    spelled_by_new a.new a.new_names.now a.old a.old_names.now a.turn a.detail
     (sym c.before.before.new-chooses.ensures ∙ c.before.if1.true) c.spelling_at.ensures
 
 spelling-at-requires-2 : tie.Need-spelling-at-requires-2
@@ -24,7 +24,7 @@ spelling-at-requires-2 c κs = search rules
 returns_2 : tie.Need-returns-2
 returns_2 c =
     let a = c.before.before.before.before.before.args in
-    spelled_by_old a.new a.new-names.now a.old a.old-names.now a.turn a.detail
+    spelled_by_old a.new a.new_names.now a.old a.old_names.now a.turn a.detail
     (sym c.before.before.new-chooses.ensures ∙ c.before.if1.false) c.spelling-at2.ensures
 
 pub label_of_spec : {M : Type 1} → statement M

@@ -19,7 +19,7 @@ returns : tie.Need-returns
 returns c =
     let a = c.before.before.before.before.before.args in
     c.nothing.ensures
-    ∙ sym (not_missing a.t1 a.new-names.now a.t3 a.old-names.now a.found
+    ∙ sym (not_missing a.t1 a.new_names.now a.t3 a.old_names.now a.found
     (sym c.before.before.found_fits.ensures ∙ not-true _ c.before.if1.true))
 
 mul-x : tie.Need-overflow-mul-x
@@ -46,7 +46,7 @@ returns_2 : tie.Need-returns-2
 returns_2 c =
     let a = c.before.before.before.before.before.before.before.args in
     c.label_of.ensures
-    ∙ sym (missing_spelled a.t1 a.new-names.now a.t3 a.old-names.now a.found
+    ∙ sym (missing_spelled a.t1 a.new_names.now a.t3 a.old_names.now a.found
     (sym c.before.before.before.before.found_fits.ensures ∙ not-false _ c.before.before.before.if1.false))
 
 pub missing_of_spec : {M : Type 1} → statement M

@@ -91,9 +91,9 @@ returns c =
     let pair_count = c.before.before.before.before.before.before.before.before.before.before.before.before.before.before.before.before.before.pair_count in
     let explore = c.before.before.before.before.before.before.before.before.before.before.before.before.before.before.explore in
     let conclude = c.before.before.before.before.before.before.conclude in
-    let marks-kept = explore.kept.1.1.1.1.0 ∙ marks_part pre pair_count.ensures in
-    replaces_concluded pre pair_count.ensures marks-kept (explore.kept.1.1.1.1.1.0 ∙ scratch_part pre pair_count.ensures) refl refl explore.ensures
-    (conclude.kept.1.1.0 ∙ sym (taken_long explore.last.1.1.1.1.0 (drop pair_count.result c.before.before.before.before.before.before.before.before.before.before.before.before.before.before.before.before.before.before.before.before.before.before.before.before.before.args.marks.now) marks-kept))
+    let marks_kept = explore.kept.1.1.1.1.0 ∙ marks_part pre pair_count.ensures in
+    replaces_concluded pre pair_count.ensures marks_kept (explore.kept.1.1.1.1.1.0 ∙ scratch_part pre pair_count.ensures) refl refl explore.ensures
+    (conclude.kept.1.1.0 ∙ sym (taken_long explore.last.1.1.1.1.0 (drop pair_count.result c.before.before.before.before.before.before.before.before.before.before.before.before.before.before.before.before.before.before.before.before.before.before.before.before.before.args.marks.now) marks_kept))
     (conclude.kept.1.1.1.0 ∙ path_part pre pair_count.ensures) conclude.ensures
 
 pub decide_spec : {M : Type 1} → statement M

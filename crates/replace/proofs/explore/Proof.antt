@@ -17,11 +17,11 @@ use Rattle.replace.proofs.explore.Statement.{statement}
 use Rattle.replace.proofs.explore.Tie as tie
 
 abbrev invariant-loop : tie.invariant-loop
-invariant-loop new-names old-names marks₀ scratch₀ new old n m sizes start at₀ tail₀ marks scratch at tail =
-    State new new-names old old-names (record { marks = marks; scratch = scratch; tail = tail }) at at 0
+invariant-loop new_names old_names marks₀ scratch₀ new old n m sizes start at₀ tail₀ marks scratch at tail =
+    State new new_names old old_names (record { marks = marks; scratch = scratch; tail = tail }) at at 0
 
 abbrev decreases-loop : tie.decreases-loop
-decreases-loop new-names old-names marks₀ scratch₀ new old n m sizes start at₀ tail₀ marks scratch at tail = pair_count new old - at
+decreases-loop new_names old_names marks₀ scratch₀ new old n m sizes start at₀ tail₀ marks scratch at tail = pair_count new old - at
 
 cast-n : tie.Need-overflow-cast-n invariant-loop decreases-loop
 cast-n c = search rules

@@ -29,22 +29,22 @@ abbrev pub reply_line : Reply → List ℕ
 reply_line r = verdict_line r.answer r.areas.path
 
 abbrev pub second_line : Question → Table → List ℕ → Made → List ℕ → List ℕ
-second_line q new new-names m old-names =
+second_line q new new_names m old_names =
     elim m.answer [
       | answer.Refused n p ↦ refused_line n 2 p
-      | answer.Accepted ↦ reply_line (verdict new new-names (against q m.table) old-names (areas_for new (against q m.table)))
+      | answer.Accepted ↦ reply_line (verdict new new_names (against q m.table) old_names (areas_for new (against q m.table)))
     ]
 
 unfoldable pub first_line : Question → Made → List ℕ → List ℕ → List ℕ
-first_line q m new-names old-names =
+first_line q m new_names old_names =
     elim m.answer [
       | answer.Refused n p ↦ refused_line n 1 p
-      | answer.Accepted ↦ second_line q m.table new-names (reading old-names) old-names
+      | answer.Accepted ↦ second_line q m.table new_names (reading old_names) old_names
     ]
 
 -- the line for two texts, and for an input
 abbrev pub line_of : Question → List ℕ → List ℕ → List ℕ
-line_of q new-text old-text = first_line q (reading new-text) new-text old-text
+line_of q new_text old_text = first_line q (reading new_text) new_text old_text
 
 unfoldable pub printed : Question → List ℕ → List ℕ
 printed q input = line_of q (first_text input) (second_text input)

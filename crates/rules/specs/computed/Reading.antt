@@ -8,7 +8,7 @@ use Rattle.rules.specs.Tokens.{Token, Symbol, word, reserved_word, one_byte, sym
 use Rattle.rules.specs.Notation.{Way, into, out, Ty, ended, name, message, choice, Items, no_items, sort, session, Labels, last_label, label, Text, last_definition, definition, end_position, sort_position, opening, closing, sign}
 use Rattle.rules.specs.Numbers.{text_most, definitions_most, text_nodes_most, labels_most, items_most, brackets_most}
 use Rattle.rules.specs.Numbering.{Lead, to_node, to_name, to_nothing, definition_leads, follow, definition_count, table_of}
-use Rattle.rules.specs.Refusals.{Begins, a_definition, a-label, an_item, nothing-new, Seen, unseen, seen_after, innermost, opens, begins_node, among, used_names, defined_names}
+use Rattle.rules.specs.Refusals.{Begins, a_definition, a_label, an_item, nothing_new, Seen, unseen, seen_after, innermost, opens, begins_node, among, used_names, defined_names}
 use Rattle.rules.specs.Refusals as refusal
 use Rattle.rules.specs.Replies.{made, refused}
 use Rattle.table.specs.declared.Sort.{Sort}
@@ -171,9 +171,9 @@ text_from (suc n) (t ∷ ts) =
 -- 3 to 7: the lowest number that a token is refused for
 abbrev pub one_more : Seen → Token → Begins → Bool
 one_more z t a_definition = leb definitions_most (length z.names)
-one_more z t a-label = leb labels_most (length (innermost z.brackets))
+one_more z t a_label = leb labels_most (length (innermost z.brackets))
 one_more z t an_item = leb items_most (length (innermost z.brackets))
-one_more z t nothing-new = false
+one_more z t nothing_new = false
 
 abbrev pub if_so : Bool → ℕ → Option ℕ
 if_so true n = some n
@@ -181,9 +181,9 @@ if_so false n = none
 
 abbrev pub again : Seen → Token → Begins → Option ℕ
 again z t a_definition = if_so (among z.names t.spelled) refusal.name_twice
-again z t a-label = if_so (among (innermost z.brackets) t.spelled) refusal.label_twice
+again z t a_label = if_so (among (innermost z.brackets) t.spelled) refusal.label_twice
 again z t an_item = none
-again z t nothing-new = none
+again z t nothing_new = none
 
 -- the first of 3, 4 and 5 whose test passes, and else what comes behind
 abbrev pub lowest : Bool → Bool → Bool → Option ℕ → Option ℕ

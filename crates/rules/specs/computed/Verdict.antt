@@ -47,11 +47,11 @@ fits mismatch.Counts = false
 fits (mismatch.Item i) = false
 fits (mismatch.Label i) = false
 
-module _ (new : Table) (new-names : List ℕ) (old : Table) (old-names : List ℕ) where
+module _ (new : Table) (new_names : List ℕ) (old : Table) (old_names : List ℕ) where
   -- the entries with what step s of e leads to
   unfoldable pub visit : Entry → ℕ → List Entry → List Entry
   visit e s es =
-      elim (step_at new new-names old old-names e.pair s) [
+      elim (step_at new new_names old old_names e.pair s) [
         | none ↦ es
         | some q ↦ elim (reached es q) [ true ↦ es | false ↦ es ++ (entry_behind e s q ∷ []) ]
       ]
@@ -68,7 +68,7 @@ module _ (new : Table) (new-names : List ℕ) (old : Table) (old-names : List �
       elim (ltb h (length es)) [
         | false ↦ all_fit es
         | true ↦
-            elim (fits (mismatch_at new new-names old old-names (get_or es h no_entry).pair)) [
+            elim (fits (mismatch_at new new_names old old_names (get_or es h no_entry).pair)) [
               | false ↦ mismatched (get_or es h no_entry)
               | true ↦ explore n (expand (get_or es h no_entry) labels_most zero es) (suc h)
             ]
@@ -91,7 +91,7 @@ pub record Reply : Type 0 where
   pub answer : Verdict
   pub areas : Areas
 
-module _ (new : Table) (new-names : List ℕ) (old : Table) (old-names : List ℕ) (before : Areas) where
+module _ (new : Table) (new_names : List ℕ) (old : Table) (old_names : List ℕ) (before : Areas) where
   abbrev pub refuse : ℕ → ℕ → Reply
   refuse n p = record { answer = the.Refused n p; areas = before }
 
@@ -111,8 +111,8 @@ module _ (new : Table) (new-names : List ℕ) (old : Table) (old-names : List �
         answer =
             the.No
             (record {
-              reason = reason (mismatch_at new new-names old old-names e.pair);
-              detail = detail (mismatch_at new new-names old old-names e.pair);
+              reason = reason (mismatch_at new new_names old old_names e.pair);
+              detail = detail (mismatch_at new new_names old old_names e.pair);
               new = e.pair.new;
               old = e.pair.old;
               turn = e.pair.turn;
@@ -129,10 +129,10 @@ module _ (new : Table) (new-names : List ℕ) (old : Table) (old-names : List �
 
   unfoldable pub verdict : Reply
   verdict =
-      elim (well_formed new new-names) [
+      elim (well_formed new new_names) [
         | false ↦ refuse not_well_formed 1
         | true ↦
-            elim (well_formed old old-names) [
+            elim (well_formed old old_names) [
               | false ↦ refuse not_well_formed 2
               | true ↦
                   elim (ltb (length before.marks) (pair_count new old)) [
@@ -143,7 +143,7 @@ module _ (new : Table) (new-names : List ℕ) (old : Table) (old-names : List �
                           | false ↦
                               elim (ltb (length before.scratch) (scratch_size new old)) [
                                 | true ↦ refuse area_too_short 3
-                                | false ↦ settle (outcome new new-names old old-names)
+                                | false ↦ settle (outcome new new_names old old_names)
                               ]
                         ]
                   ]

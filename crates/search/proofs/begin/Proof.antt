@@ -29,7 +29,7 @@ same_length_2 c = search rules
 returns : tie.Need-returns
 returns c =
     let entry = c.before.before.before.before.before.before.before.before.before.before in
-    begun-made entry.args.start entry.requires.2 entry.requires.3 c.before.before.before.before.before.before.clear-marks.ensures
+    begun-made entry.args.start entry.requires.2 entry.requires.3 c.before.before.before.before.before.before.clear_marks.ensures
     c.before.before.clear-numbers.ensures
 
 pub begin_spec : {M : Type 1} → statement M

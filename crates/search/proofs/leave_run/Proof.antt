@@ -31,9 +31,9 @@ returns c =
     let depth = c.before.before.before.before.before.before.before.before.before.before.before.before.before.before.depth
     in
     let write-path = c.before.before.before.before.before.before.before.before.before.before.write-path in
-    let clear-marks = c.before.before.before.before.before.before.clear-marks in
+    let clear_marks = c.before.before.before.before.before.before.clear_marks in
     let clear-numbers = c.before.before.clear-numbers in
-    run_left depth.ensures write-path.ensures clear-marks.ensures clear-numbers.ensures
+    run_left depth.ensures write-path.ensures clear_marks.ensures clear-numbers.ensures
 
 pub leave_run_spec : {M : Type 1} → statement M
 leave_run_spec =

@@ -12,7 +12,7 @@ use Rattle.type_reader.proofs.ItemTurns as items
 use Rattle.type_reader.proofs.Labelled.{fresh_label}
 use Rattle.type_reader.proofs.LabelTurns as labels
 use Rattle.type_reader.proofs.Safe.{take_ready, token_long, onward_taken, signed_onward, opened_onward, begun_ready, sound_past, sound_refused, sound_on, sound_used, sound_ended, sound_step, sound_stored, sound_row, sound_number, item_is, item_few, item_known, label_ready, label_inside, label_places}
-use Rattle.type_reader.proofs.Told.{message-told₁, message-told₂, message-told₃, message-told₄, message-told₅, message-told₆, choice-told₁, choice-told₂, choice-told₃, choice-told₄, item_told₁, item_told₂, item_told₃, item_told₄, label_told₁, label_told₂, label_told₃, label_told₄}
+use Rattle.type_reader.proofs.Told.{message_told₁, message_told₂, message_told₃, message_told₄, message_told₅, message_told₆, choice_told₁, choice_told₂, choice_told₃, choice_told₄, item_told₁, item_told₂, item_told₃, item_told₄, label_told₁, label_told₂, label_told₃, label_told₄}
 use Prim.Native.Nat.{ℕ, ◌<◌, ◌+◌, ◌-◌, ◌*◌}
 use borrow.Fn.Kinds.{In}
 use borrow.Fn.PlainCycle.{Measures, is, falls, and}
@@ -164,7 +164,7 @@ read_choice_enum_told : (t : ℕ) → read-choice-lts.Need-enum-told (read_choic
 read_choice_enum_told t c = search rules
 
 read_choice_returns : (t : ℕ) → read-choice-lts.Need-returns (read_choice_env t) (read_choice_at t) read-choice.Post
-read_choice_returns t c = (sound_refused c.enum_told.given.1, λ d k y. choice-told₁ _ c.before.before.before.before.requires.1.0 c.before.before.begin-node.ensures c.enum_told.given.1 d k)
+read_choice_returns t c = (sound_refused c.enum_told.given.1, λ d k y. choice_told₁ _ c.before.before.before.before.requires.1.0 c.before.before.begin-node.ensures c.enum_told.given.1 d k)
 
 read_choice_bracket_requires : (t : ℕ) → read-choice-lts.Need-bracket-requires (read_choice_env t) (read_choice_at t) read-choice.Post
 read_choice_bracket_requires t c κs = (begun_ready c.before.before.before.before.before.requires.1.0 c.before.before.before.begin-node.ensures c.before.r1.given.1).ready.inside
@@ -176,7 +176,7 @@ read_choice_enum_told_2 : (t : ℕ) → read-choice-lts.Need-enum-told-2 (read_c
 read_choice_enum_told_2 t c = search rules
 
 read_choice_returns_2 : (t : ℕ) → read-choice-lts.Need-returns-2 (read_choice_env t) (read_choice_at t) read-choice.Post
-read_choice_returns_2 t c = (sound_refused c.enum-told2.given.1, λ d k y. choice-told₂ _ c.before.before.before.before.before.before.before.before.requires.1.0 c.before.before.before.before.before.before.begin-node.ensures c.before.before.before.before.r1.given.1 c.before.before.bracket.ensures c.enum-told2.given.1 d k refl)
+read_choice_returns_2 t c = (sound_refused c.enum-told2.given.1, λ d k y. choice_told₂ _ c.before.before.before.before.before.before.before.before.requires.1.0 c.before.before.before.before.before.before.begin-node.ensures c.before.before.before.before.r1.given.1 c.before.before.bracket.ensures c.enum-told2.given.1 d k refl)
 
 read_choice_cast_number : (t : ℕ) → read-choice-lts.Need-overflow-cast-number (read_choice_env t) (read_choice_at t) read-choice.Post
 read_choice_cast_number t c = omega (arith, (begun_ready c.before.before.before.before.before.before.before.before.before.requires.1.0 c.before.before.before.before.before.before.before.begin-node.ensures c.before.before.before.before.before.r1.given.1).few)
@@ -194,13 +194,13 @@ read_choice_enum_told_3 : (t : ℕ) → read-choice-lts.Need-enum-told-3 (read_c
 read_choice_enum_told_3 t c = search rules
 
 read_choice_returns_3 : (t : ℕ) → read-choice-lts.Need-returns-3 (read_choice_env t) (read_choice_at t) read-choice.Post
-read_choice_returns_3 t c = (sound_refused c.enum-told3.given.1, λ d k y. choice-told₃ _ c.before.before.before.before.before.before.before.before.before.before.before.before.before.before.requires.1.0 c.before.before.before.before.before.before.before.before.before.before.before.before.begin-node.ensures c.before.before.before.before.before.before.before.before.before.before.r1.given.1 c.before.before.before.before.before.before.before.before.bracket.ensures c.before.before.before.before.before.before.r2.given.1 c.before.before.read-labels.ensures.1 c.enum-told3.given.1 d k refl)
+read_choice_returns_3 t c = (sound_refused c.enum-told3.given.1, λ d k y. choice_told₃ _ c.before.before.before.before.before.before.before.before.before.before.before.before.before.before.requires.1.0 c.before.before.before.before.before.before.before.before.before.before.before.before.begin-node.ensures c.before.before.before.before.before.before.before.before.before.before.r1.given.1 c.before.before.before.before.before.before.before.before.bracket.ensures c.before.before.before.before.before.before.r2.given.1 c.before.before.read-labels.ensures.1 c.enum-told3.given.1 d k refl)
 
 read_choice_store_requires : (t : ℕ) → read-choice-lts.Need-store-requires (read_choice_env t) (read_choice_at t) read-choice.Post
 read_choice_store_requires t c κs = (begun_ready c.before.before.before.before.before.before.before.before.before.before.before.before.before.before.before.before.requires.1.0 c.before.before.before.before.before.before.before.before.before.before.before.before.before.before.begin-node.ensures c.before.before.before.before.before.before.before.before.before.before.before.before.r1.given.1).few
 
 read_choice_returns_4 : (t : ℕ) → read-choice-lts.Need-returns-4 (read_choice_env t) (read_choice_at t) read-choice.Post
-read_choice_returns_4 t c = let b = (begun_ready c.before.before.before.before.before.before.before.before.before.before.before.before.before.before.before.before.before.requires.1.0 c.before.before.before.before.before.before.before.before.before.before.before.before.before.before.before.begin-node.ensures c.before.before.before.before.before.before.before.before.before.before.before.before.before.r1.given.1) in let o = (opened_onward (begun_ready c.before.before.before.before.before.before.before.before.before.before.before.before.before.before.before.before.before.requires.1.0 c.before.before.before.before.before.before.before.before.before.before.before.before.before.before.before.begin-node.ensures c.before.before.before.before.before.before.before.before.before.before.before.before.before.r1.given.1).ready c.before.before.before.before.before.before.before.before.before.before.before.bracket.ensures c.before.before.before.before.before.before.before.before.before.r2.given.1 (omega arith)) in let z = (sound_past c.before.before.before.before.before.read-labels.ensures.0 c.before.before.before.r3.given.1) in (sound_stored _ _ _ (omega (arith, o.0.further, b.place, c.before.before.before.before.before.before.before.before.before.before.before.before.before.before.before.before.before.requires.1.0.order, z.further)) (omega (arith, b.nodes, b.number, o.0.nodes, z.more)) b.few z.ready c.store.ensures, λ d e y. choice-told₄ _ c.before.before.before.before.before.before.before.before.before.before.before.before.before.before.before.before.before.requires.1.0 c.before.before.before.before.before.before.before.before.before.before.before.before.before.before.before.begin-node.ensures c.before.before.before.before.before.before.before.before.before.before.before.before.before.r1.given.1 c.before.before.before.before.before.before.before.before.before.before.before.bracket.ensures c.before.before.before.before.before.before.before.before.before.r2.given.1 c.before.before.before.before.before.read-labels.ensures.1 c.before.before.before.r3.given.1 z.ready.room_nodes c.store.ensures d e refl y)
+read_choice_returns_4 t c = let b = (begun_ready c.before.before.before.before.before.before.before.before.before.before.before.before.before.before.before.before.before.requires.1.0 c.before.before.before.before.before.before.before.before.before.before.before.before.before.before.before.begin-node.ensures c.before.before.before.before.before.before.before.before.before.before.before.before.before.r1.given.1) in let o = (opened_onward (begun_ready c.before.before.before.before.before.before.before.before.before.before.before.before.before.before.before.before.before.requires.1.0 c.before.before.before.before.before.before.before.before.before.before.before.before.before.before.before.begin-node.ensures c.before.before.before.before.before.before.before.before.before.before.before.before.before.r1.given.1).ready c.before.before.before.before.before.before.before.before.before.before.before.bracket.ensures c.before.before.before.before.before.before.before.before.before.r2.given.1 (omega arith)) in let z = (sound_past c.before.before.before.before.before.read-labels.ensures.0 c.before.before.before.r3.given.1) in (sound_stored _ _ _ (omega (arith, o.0.further, b.place, c.before.before.before.before.before.before.before.before.before.before.before.before.before.before.before.before.before.requires.1.0.order, z.further)) (omega (arith, b.nodes, b.number, o.0.nodes, z.more)) b.few z.ready c.store.ensures, λ d e y. choice_told₄ _ c.before.before.before.before.before.before.before.before.before.before.before.before.before.before.before.before.before.requires.1.0 c.before.before.before.before.before.before.before.before.before.before.before.before.before.before.before.begin-node.ensures c.before.before.before.before.before.before.before.before.before.before.before.before.before.r1.given.1 c.before.before.before.before.before.before.before.before.before.before.before.bracket.ensures c.before.before.before.before.before.before.before.before.before.r2.given.1 c.before.before.before.before.before.read-labels.ensures.1 c.before.before.before.r3.given.1 z.ready.room_nodes c.store.ensures d e refl y)
 
 read_item_item_requires : (t : ℕ) → read-item-lts.Need-item-requires (read_item_env t) (read_item_at t) read-item.Post
 read_item_item_requires t c κs = search rules
@@ -407,7 +407,7 @@ read_message_enum_told : (t : ℕ) → read-message-lts.Need-enum-told (read_mes
 read_message_enum_told t c = search rules
 
 read_message_returns : (t : ℕ) → read-message-lts.Need-returns (read_message_env t) (read_message_at t) read-message.Post
-read_message_returns t c = (sound_refused c.enum_told.given.1, λ d k o x y. message-told₁ _ c.before.before.before.before.requires.1.0 c.before.before.begin-node.ensures c.enum_told.given.1 d k)
+read_message_returns t c = (sound_refused c.enum_told.given.1, λ d k o x y. message_told₁ _ c.before.before.before.before.requires.1.0 c.before.before.begin-node.ensures c.enum_told.given.1 d k)
 
 read_message_bracket_requires : (t : ℕ) → read-message-lts.Need-bracket-requires (read_message_env t) (read_message_at t) read-message.Post
 read_message_bracket_requires t c κs = (begun_ready c.before.before.before.before.before.requires.1.0 c.before.before.before.begin-node.ensures c.before.r1.given.1).ready.inside
@@ -419,7 +419,7 @@ read_message_enum_told_2 : (t : ℕ) → read-message-lts.Need-enum-told-2 (read
 read_message_enum_told_2 t c = search rules
 
 read_message_returns_2 : (t : ℕ) → read-message-lts.Need-returns-2 (read_message_env t) (read_message_at t) read-message.Post
-read_message_returns_2 t c = (sound_refused c.enum-told2.given.1, λ d k o x y. message-told₂ _ c.before.before.before.before.before.before.before.before.requires.1.0 c.before.before.before.before.before.before.begin-node.ensures c.before.before.before.before.r1.given.1 c.before.before.bracket.ensures c.enum-told2.given.1 d k o)
+read_message_returns_2 t c = (sound_refused c.enum-told2.given.1, λ d k o x y. message_told₂ _ c.before.before.before.before.before.before.before.before.requires.1.0 c.before.before.before.before.before.before.begin-node.ensures c.before.before.before.before.r1.given.1 c.before.before.bracket.ensures c.enum-told2.given.1 d k o)
 
 read_message_cast_number : (t : ℕ) → read-message-lts.Need-overflow-cast-number (read_message_env t) (read_message_at t) read-message.Post
 read_message_cast_number t c = omega (arith, (begun_ready c.before.before.before.before.before.before.before.before.before.requires.1.0 c.before.before.before.before.before.before.before.begin-node.ensures c.before.before.before.before.before.r1.given.1).few)
@@ -437,7 +437,7 @@ read_message_enum_told_3 : (t : ℕ) → read-message-lts.Need-enum-told-3 (read
 read_message_enum_told_3 t c = search rules
 
 read_message_returns_3 : (t : ℕ) → read-message-lts.Need-returns-3 (read_message_env t) (read_message_at t) read-message.Post
-read_message_returns_3 t c = (sound_refused c.enum-told3.given.1, λ d k o x y. message-told₃ _ c.before.before.before.before.before.before.before.before.before.before.before.before.before.before.requires.1.0 c.before.before.before.before.before.before.before.before.before.before.before.before.begin-node.ensures c.before.before.before.before.before.before.before.before.before.before.r1.given.1 c.before.before.before.before.before.before.before.before.bracket.ensures c.before.before.before.before.before.before.r2.given.1 c.before.before.read-items.ensures.1 c.enum-told3.given.1 d k o x)
+read_message_returns_3 t c = (sound_refused c.enum-told3.given.1, λ d k o x y. message_told₃ _ c.before.before.before.before.before.before.before.before.before.before.before.before.before.before.requires.1.0 c.before.before.before.before.before.before.before.before.before.before.before.before.begin-node.ensures c.before.before.before.before.before.before.before.before.before.before.r1.given.1 c.before.before.before.before.before.before.before.before.bracket.ensures c.before.before.before.before.before.before.r2.given.1 c.before.before.read-items.ensures.1 c.enum-told3.given.1 d k o x)
 
 read_message-sign_requires : (t : ℕ) → read-message-lts.Need-sign-requires (read_message_env t) (read_message_at t) read-message.Post
 read_message-sign_requires t c κs = (sound_past c.before.before.before.read-items.ensures.0 c.before.r3.given.1).ready.inside
@@ -449,7 +449,7 @@ read_message_enum_told_4 : (t : ℕ) → read-message-lts.Need-enum-told-4 (read
 read_message_enum_told_4 t c = search rules
 
 read_message_returns_4 : (t : ℕ) → read-message-lts.Need-returns-4 (read_message_env t) (read_message_at t) read-message.Post
-read_message_returns_4 t c = (sound_refused c.enum-told4.given.1, λ d k o x y. message-told₄ _ c.before.before.before.before.before.before.before.before.before.before.before.before.before.before.before.before.before.before.requires.1.0 c.before.before.before.before.before.before.before.before.before.before.before.before.before.before.before.before.begin-node.ensures c.before.before.before.before.before.before.before.before.before.before.before.before.before.before.r1.given.1 c.before.before.before.before.before.before.before.before.before.before.before.before.bracket.ensures c.before.before.before.before.before.before.before.before.before.before.r2.given.1 c.before.before.before.before.before.before.read-items.ensures.1 c.before.before.before.before.r3.given.1 c.before.before.sign.ensures c.enum-told4.given.1 d k o x)
+read_message_returns_4 t c = (sound_refused c.enum-told4.given.1, λ d k o x y. message_told₄ _ c.before.before.before.before.before.before.before.before.before.before.before.before.before.before.before.before.before.before.requires.1.0 c.before.before.before.before.before.before.before.before.before.before.before.before.before.before.before.before.begin-node.ensures c.before.before.before.before.before.before.before.before.before.before.before.before.before.before.r1.given.1 c.before.before.before.before.before.before.before.before.before.before.before.before.bracket.ensures c.before.before.before.before.before.before.before.before.before.before.r2.given.1 c.before.before.before.before.before.before.read-items.ensures.1 c.before.before.before.before.r3.given.1 c.before.before.sign.ensures c.enum-told4.given.1 d k o x)
 
 read_message-take_requires : (t : ℕ) → read-message-lts.Need-take-requires (read_message_env t) (read_message_at t) read-message.Post
 read_message-take_requires t c κs = search rules
@@ -464,13 +464,13 @@ read_message_enum_told_5 : (t : ℕ) → read-message-lts.Need-enum-told-5 (read
 read_message_enum_told_5 t c = search rules
 
 read_message_returns_5 : (t : ℕ) → read-message-lts.Need-returns-5 (read_message_env t) (read_message_at t) read-message.Post
-read_message_returns_5 t c = (sound_refused c.enum-told5.given.1, λ d k o x y. message-told₅ _ c.before.before.before.before.before.before.before.before.before.before.before.before.before.before.before.before.before.before.before.before.before.before.before.before.before.requires.1.0 c.before.before.before.before.before.before.before.before.before.before.before.before.before.before.before.before.before.before.before.before.before.before.before.begin-node.ensures c.before.before.before.before.before.before.before.before.before.before.before.before.before.before.before.before.before.before.before.before.before.r1.given.1 c.before.before.before.before.before.before.before.before.before.before.before.before.before.before.before.before.before.before.before.bracket.ensures c.before.before.before.before.before.before.before.before.before.before.before.before.before.before.before.before.before.r2.given.1 c.before.before.before.before.before.before.before.before.before.before.before.before.before.read-items.ensures.1 c.before.before.before.before.before.before.before.before.before.before.before.r3.given.1 c.before.before.before.before.before.before.before.before.before.sign.ensures c.before.before.before.before.before.before.before.r4.given.1 (c.before.before.before.take.ensures (signed_onward (sound_past c.before.before.before.before.before.before.before.before.before.before.before.before.before.read-items.ensures.0 c.before.before.before.before.before.before.before.before.before.before.before.r3.given.1).ready c.before.before.before.before.before.before.before.before.before.sign.ensures c.before.before.before.before.before.before.before.r4.given.1 (omega arith)).ready.inside) c.before.before.read-type.ensures.1 c.enum-told5.given.1 d k o x)
+read_message_returns_5 t c = (sound_refused c.enum-told5.given.1, λ d k o x y. message_told₅ _ c.before.before.before.before.before.before.before.before.before.before.before.before.before.before.before.before.before.before.before.before.before.before.before.before.before.requires.1.0 c.before.before.before.before.before.before.before.before.before.before.before.before.before.before.before.before.before.before.before.before.before.before.before.begin-node.ensures c.before.before.before.before.before.before.before.before.before.before.before.before.before.before.before.before.before.before.before.before.before.r1.given.1 c.before.before.before.before.before.before.before.before.before.before.before.before.before.before.before.before.before.before.before.bracket.ensures c.before.before.before.before.before.before.before.before.before.before.before.before.before.before.before.before.before.r2.given.1 c.before.before.before.before.before.before.before.before.before.before.before.before.before.read-items.ensures.1 c.before.before.before.before.before.before.before.before.before.before.before.r3.given.1 c.before.before.before.before.before.before.before.before.before.sign.ensures c.before.before.before.before.before.before.before.r4.given.1 (c.before.before.before.take.ensures (signed_onward (sound_past c.before.before.before.before.before.before.before.before.before.before.before.before.before.read-items.ensures.0 c.before.before.before.before.before.before.before.before.before.before.before.r3.given.1).ready c.before.before.before.before.before.before.before.before.before.sign.ensures c.before.before.before.before.before.before.before.r4.given.1 (omega arith)).ready.inside) c.before.before.read-type.ensures.1 c.enum-told5.given.1 d k o x)
 
 read_message_store_requires : (t : ℕ) → read-message-lts.Need-store-requires (read_message_env t) (read_message_at t) read-message.Post
 read_message_store_requires t c κs = (begun_ready c.before.before.before.before.before.before.before.before.before.before.before.before.before.before.before.before.before.before.before.before.before.before.before.before.before.before.before.requires.1.0 c.before.before.before.before.before.before.before.before.before.before.before.before.before.before.before.before.before.before.before.before.before.before.before.before.before.begin-node.ensures c.before.before.before.before.before.before.before.before.before.before.before.before.before.before.before.before.before.before.before.before.before.before.before.r1.given.1).few
 
 read_message_returns_6 : (t : ℕ) → read-message-lts.Need-returns-6 (read_message_env t) (read_message_at t) read-message.Post
-read_message_returns_6 t c = let b = (begun_ready c.before.before.before.before.before.before.before.before.before.before.before.before.before.before.before.before.before.before.before.before.before.before.before.before.before.before.before.before.requires.1.0 c.before.before.before.before.before.before.before.before.before.before.before.before.before.before.before.before.before.before.before.before.before.before.before.before.before.before.begin-node.ensures c.before.before.before.before.before.before.before.before.before.before.before.before.before.before.before.before.before.before.before.before.before.before.before.before.r1.given.1) in let o = (opened_onward (begun_ready c.before.before.before.before.before.before.before.before.before.before.before.before.before.before.before.before.before.before.before.before.before.before.before.before.before.before.before.before.requires.1.0 c.before.before.before.before.before.before.before.before.before.before.before.before.before.before.before.before.before.before.before.before.before.before.before.before.before.before.begin-node.ensures c.before.before.before.before.before.before.before.before.before.before.before.before.before.before.before.before.before.before.before.before.before.before.before.before.r1.given.1).ready c.before.before.before.before.before.before.before.before.before.before.before.before.before.before.before.before.before.before.before.before.before.before.bracket.ensures c.before.before.before.before.before.before.before.before.before.before.before.before.before.before.before.before.before.before.before.before.r2.given.1 (omega (arith, c.before.before.before.before.before.before.before.before.before.before.before.before.before.before.before.before.before.before.before.before.before.before.before.before.before.before.before.before.requires.1.3))) in let z = (sound_past c.before.before.before.before.before.before.before.before.before.before.before.before.before.before.before.before.read-items.ensures.0 c.before.before.before.before.before.before.before.before.before.before.before.before.before.before.r3.given.1) in let g = (signed_onward (sound_past c.before.before.before.before.before.before.before.before.before.before.before.before.before.before.before.before.read-items.ensures.0 c.before.before.before.before.before.before.before.before.before.before.before.before.before.before.r3.given.1).ready c.before.before.before.before.before.before.before.before.before.before.before.before.sign.ensures c.before.before.before.before.before.before.before.before.before.before.r4.given.1 (omega arith)) in let k = (c.before.before.before.before.before.before.take.ensures (signed_onward (sound_past c.before.before.before.before.before.before.before.before.before.before.before.before.before.before.before.before.read-items.ensures.0 c.before.before.before.before.before.before.before.before.before.before.before.before.before.before.r3.given.1).ready c.before.before.before.before.before.before.before.before.before.before.before.before.sign.ensures c.before.before.before.before.before.before.before.before.before.before.r4.given.1 (omega arith)).ready.inside) in let y = (sound_past c.before.before.before.before.before.read-type.ensures.0 c.before.before.before.r5.given.1) in (sound_stored _ _ _ (omega (arith, o.0.further, b.place, c.before.before.before.before.before.before.before.before.before.before.before.before.before.before.before.before.before.before.before.before.before.before.before.before.before.before.before.before.requires.1.0.order, z.further, g.further, k.from, y.further)) (omega (arith, b.nodes, b.number, o.0.nodes, z.more, g.nodes, k.nodes, y.more)) b.few y.ready c.store.ensures, λ d e q x w. message-told₆ _ c.before.before.before.before.before.before.before.before.before.before.before.before.before.before.before.before.before.before.before.before.before.before.before.before.before.before.before.before.requires.1.0 c.before.before.before.before.before.before.before.before.before.before.before.before.before.before.before.before.before.before.before.before.before.before.before.before.before.before.begin-node.ensures c.before.before.before.before.before.before.before.before.before.before.before.before.before.before.before.before.before.before.before.before.before.before.before.before.r1.given.1 c.before.before.before.before.before.before.before.before.before.before.before.before.before.before.before.before.before.before.before.before.before.before.bracket.ensures c.before.before.before.before.before.before.before.before.before.before.before.before.before.before.before.before.before.before.before.before.r2.given.1 c.before.before.before.before.before.before.before.before.before.before.before.before.before.before.before.before.read-items.ensures.1 c.before.before.before.before.before.before.before.before.before.before.before.before.before.before.r3.given.1 c.before.before.before.before.before.before.before.before.before.before.before.before.sign.ensures c.before.before.before.before.before.before.before.before.before.before.r4.given.1 k c.before.before.before.before.before.read-type.ensures.1 c.before.before.before.r5.given.1 y.ready.room_nodes c.store.ensures d e q x w)
+read_message_returns_6 t c = let b = (begun_ready c.before.before.before.before.before.before.before.before.before.before.before.before.before.before.before.before.before.before.before.before.before.before.before.before.before.before.before.before.requires.1.0 c.before.before.before.before.before.before.before.before.before.before.before.before.before.before.before.before.before.before.before.before.before.before.before.before.before.before.begin-node.ensures c.before.before.before.before.before.before.before.before.before.before.before.before.before.before.before.before.before.before.before.before.before.before.before.before.r1.given.1) in let o = (opened_onward (begun_ready c.before.before.before.before.before.before.before.before.before.before.before.before.before.before.before.before.before.before.before.before.before.before.before.before.before.before.before.before.requires.1.0 c.before.before.before.before.before.before.before.before.before.before.before.before.before.before.before.before.before.before.before.before.before.before.before.before.before.before.begin-node.ensures c.before.before.before.before.before.before.before.before.before.before.before.before.before.before.before.before.before.before.before.before.before.before.before.before.r1.given.1).ready c.before.before.before.before.before.before.before.before.before.before.before.before.before.before.before.before.before.before.before.before.before.before.bracket.ensures c.before.before.before.before.before.before.before.before.before.before.before.before.before.before.before.before.before.before.before.before.r2.given.1 (omega (arith, c.before.before.before.before.before.before.before.before.before.before.before.before.before.before.before.before.before.before.before.before.before.before.before.before.before.before.before.before.requires.1.3))) in let z = (sound_past c.before.before.before.before.before.before.before.before.before.before.before.before.before.before.before.before.read-items.ensures.0 c.before.before.before.before.before.before.before.before.before.before.before.before.before.before.r3.given.1) in let g = (signed_onward (sound_past c.before.before.before.before.before.before.before.before.before.before.before.before.before.before.before.before.read-items.ensures.0 c.before.before.before.before.before.before.before.before.before.before.before.before.before.before.r3.given.1).ready c.before.before.before.before.before.before.before.before.before.before.before.before.sign.ensures c.before.before.before.before.before.before.before.before.before.before.r4.given.1 (omega arith)) in let k = (c.before.before.before.before.before.before.take.ensures (signed_onward (sound_past c.before.before.before.before.before.before.before.before.before.before.before.before.before.before.before.before.read-items.ensures.0 c.before.before.before.before.before.before.before.before.before.before.before.before.before.before.r3.given.1).ready c.before.before.before.before.before.before.before.before.before.before.before.before.sign.ensures c.before.before.before.before.before.before.before.before.before.before.r4.given.1 (omega arith)).ready.inside) in let y = (sound_past c.before.before.before.before.before.read-type.ensures.0 c.before.before.before.r5.given.1) in (sound_stored _ _ _ (omega (arith, o.0.further, b.place, c.before.before.before.before.before.before.before.before.before.before.before.before.before.before.before.before.before.before.before.before.before.before.before.before.before.before.before.before.requires.1.0.order, z.further, g.further, k.from, y.further)) (omega (arith, b.nodes, b.number, o.0.nodes, z.more, g.nodes, k.nodes, y.more)) b.few y.ready c.store.ensures, λ d e q x w. message_told₆ _ c.before.before.before.before.before.before.before.before.before.before.before.before.before.before.before.before.before.before.before.before.before.before.before.before.before.before.before.before.requires.1.0 c.before.before.before.before.before.before.before.before.before.before.before.before.before.before.before.before.before.before.before.before.before.before.before.before.before.before.begin-node.ensures c.before.before.before.before.before.before.before.before.before.before.before.before.before.before.before.before.before.before.before.before.before.before.before.before.r1.given.1 c.before.before.before.before.before.before.before.before.before.before.before.before.before.before.before.before.before.before.before.before.before.before.bracket.ensures c.before.before.before.before.before.before.before.before.before.before.before.before.before.before.before.before.before.before.before.before.r2.given.1 c.before.before.before.before.before.before.before.before.before.before.before.before.before.before.before.before.read-items.ensures.1 c.before.before.before.before.before.before.before.before.before.before.before.before.before.before.r3.given.1 c.before.before.before.before.before.before.before.before.before.before.before.before.sign.ensures c.before.before.before.before.before.before.before.before.before.before.r4.given.1 k c.before.before.before.before.before.read-type.ensures.1 c.before.before.before.r5.given.1 y.ready.room_nodes c.store.ensures d e q x w)
 
 read_type-use_name_requires : (t : ℕ) → read-type-lts.Need-use-name-requires (read_type_env t) (read_type_at t) read-type.Post
 read_type-use_name_requires t c κs = let r = c.before.before.before.requires.1.0 in let l = (token_long c.before.before.before.requires.1.0 c.before.if1.true (omega arith)) in (omega (arith, r.uses_before, r.order, r.ready.inside, r.ready.short), omega (arith, r.order, r.ready.inside, r.ready.short), r.ready.room_uses)
