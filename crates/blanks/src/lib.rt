@@ -1,4 +1,6 @@
 // What is blank: "whatever makes a table fills it with 0 (`end`, `string`)"; and the answer beside which a table is blank.
+#![tactic(auto)]
+
 ghost use Rattle.std.specs.Prelude.{◌≡◌};
 ghost use Rattle.rules.specs.Tables.{blank_node};
 ghost use Rattle.rules.specs.Replies.{refused};

@@ -1,4 +1,6 @@
 // The tokens of a text, taken one by one by a cursor that is handed on by value.
+#![tactic(auto)]
+
 ghost use Rattle.std.specs.Prelude.{◌≡◌, ◌≤◌, length};
 ghost use Rattle.rules.specs.Words.{blank, word_byte};
 ghost use Rattle.rules.proofs.TokensBehind.{past};
@@ -15,7 +17,7 @@ pub const WORD: u16 = 261;
 pub const NOTHING: u16 = 262;
 
 // How far a reader has got in a text: the next byte, and how many nodes and how many uses of names stand before it.
-#[derive(Drop)]
+#[derive(Clone, Copy)]
 pub struct Cursor {
     pub at: usize,
     pub nodes: usize,
@@ -23,7 +25,7 @@ pub struct Cursor {
 }
 
 // A token: what it is, where it stands, how long it is, and the cursor behind it.
-#[derive(Drop)]
+#[derive(Clone, Copy)]
 pub struct Taken {
     pub kind: u16,
     pub at: usize,

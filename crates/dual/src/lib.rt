@@ -1,5 +1,7 @@
 // The dual of a table. `dual` answers `dual_reply` of `rules` for any table and any name bytes, and asks nothing of its caller. What it
 // makes is made node by node: a table goes by value into few functions, and through none of their loops' calls.
+#![tactic(auto)]
+
 ghost use Rattle.std.specs.Prelude.{true, ◌≡◌, ◌+◌, ◌≤◌};
 ghost use Rattle.rules.specs.Numbers.{table_nodes_most};
 ghost use Rattle.rules.specs.Tables.{continuation};

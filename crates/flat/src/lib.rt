@@ -1,5 +1,7 @@
 // How a text's tree is kept as plain numbers in areas that the readers write and the table is made from: where each number stands, and how
 // a word is found among rows of words. The definitions are in specs/Flat.antt.
+#![tactic(auto)]
+
 ghost use Rattle.std.specs.Prelude.{◌≡◌, ◌*◌, ◌≤◌, length};
 ghost use Rattle.rules.specs.Basics.{part};
 ghost use Rattle.flat.specs.Flat.{row, word_found};

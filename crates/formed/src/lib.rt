@@ -1,6 +1,8 @@
 // Whether a table is well formed with its name bytes. `well_formed` answers the definition of its name in `rules`, for any table and
 // any bytes, and asks nothing of its caller. Nodes are taken out of the table one at a time, and read through the crate `nodes`;
 // labels are compared, and judged as words, by the crate `words`, where they stand in the name bytes.
+#![tactic(auto)]
+
 ghost use Rattle.std.specs.Prelude.{◌≡◌};
 ghost use Rattle.rules.specs.Basics.{every};
 ghost use Rattle.rules.specs.Tables.{item_at, item_count, label_at, label_count};

@@ -1,5 +1,7 @@
 // What document 01 calls well formed: each limit at its number and one above, words and reserved words, labels that are and are not
 // twice in one choice, and anything at all in unused room. The file `stdout` has what each must be, written from document 01.
+#![tactic(auto)]
+
 use formed::well_formed;
 use showing::rubbish::rubbish;
 use table::{ITEMS_MOST, Item, Kind, LABELS_MOST, Label, NODES_MOST, Node, Slot, Sort, Table};

@@ -1,5 +1,7 @@
 // The C interface: the line for two texts, for either question, over byte slices and numbers. include/dzaghvori.h has a declaration and a
 // comment for each function, and says what C itself must keep. Nothing is asked here.
+#![tactic(auto)]
+
 ghost use Rattle.rules.specs.Line.{may_replace, is_compatible};
 ghost use Rattle.harness.specs.Told.{Told, Tells, TellsOwn};
 

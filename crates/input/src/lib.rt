@@ -1,10 +1,12 @@
 // Standard input, read to its end. A failed read is told from the end of the input. What does not fit is read all the same and dropped, so
 // that the writer of a pipe is not cut off.
+#![tactic(auto)]
+
 ghost use Rattle.std.specs.Prelude.{◌-◌, ◌≤◌, length};
 ghost use Rattle.input.specs.Coming.{Came, Held};
 
 // What one read brought.
-#[derive(Drop)]
+#[derive(Clone, Copy)]
 enum Turn {
     More(usize),
     Ended,
@@ -12,7 +14,7 @@ enum Turn {
 }
 
 // The input: how much of it is held, or that a read failed.
-#[derive(Drop)]
+#[derive(Clone, Copy)]
 pub enum Input {
     Whole(usize),
     Failed,

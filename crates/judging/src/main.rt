@@ -1,5 +1,7 @@
 // Judges the largest table that there is 10,000 times, and prints how often it was well formed: 128 choices of 16 labels,
 // each label 16 bytes long and at a place of its own. How long that takes is in docs/CHANGES.md.
+#![tactic(auto)]
+
 ghost use Rattle.std.specs.Prelude.{◌≡◌, ◌<◌, length};
 ghost use Rattle.rules.specs.Numbers.{table_nodes_most};
 

@@ -13,7 +13,7 @@ const SCRATCH: usize = 120;
 const LINE: usize = 200;
 
 // How many elements of each area are lent, or used.
-#[derive(Drop)]
+#[derive(Clone, Copy)]
 pub struct Sizes {
     pub marks: usize,
     pub path: usize,

@@ -4,7 +4,7 @@ use showing::parts::{between, find};
 
 // What stands in a line behind its name and a colon: two texts, parted by a stroke, for one question or the other; a text, which is shown
 // as the first of two and as the second; or an input, for both questions.
-#[derive(Drop)]
+#[derive(Clone, Copy)]
 enum Form {
     Verdict,
     Compatible,

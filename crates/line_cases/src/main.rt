@@ -2,6 +2,8 @@
 // the order of runs, sessions handed over, each limit at its number and one above, words and blanks, the form of the input, and the areas
 // that are lent. The file `stdout` has what each case must print, written by hand from document 01: its name, a colon, and the line, or
 // number and place where an area is too short.
+#![tactic(auto)]
+
 mod areas;
 mod handed;
 mod inputs;

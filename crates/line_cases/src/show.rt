@@ -18,7 +18,7 @@ pub const BYTE: u8 = 7;
 pub const NUMBER: u16 = 7;
 
 // What is asked: of two texts, or of an input.
-#[derive(Drop)]
+#[derive(Clone, Copy)]
 pub enum Door {
     Verdict,
     Compatible,

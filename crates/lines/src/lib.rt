@@ -1,5 +1,7 @@
 // From two texts to the printed line. The functions give every two texts, and any lent areas, the reply that `WritesLine` of `rules` allows,
 // and ask nothing of their caller. The line stands at the front of its area.
+#![tactic(auto)]
+
 mod writing;
 
 ghost use Rattle.std.specs.Prelude.{◌≡◌, ◌<◌, ◌≤◌, length};

@@ -1,5 +1,7 @@
 // The label that is missing after a mismatch of reason 23. `missing_label` is the definition of its name in `rules`, for any tables, name
 // bytes and answer, and asks nothing of its caller: what it hands back is a part of one of the two lent texts, and nothing is copied.
+#![tactic(auto)]
+
 ghost use Rattle.std.specs.Prelude.{true, false, ◌&&◌, [], ◌≡◌, ◌<◌, eqb, ltb};
 ghost use Rattle.rules.specs.Tables.{is_choice, label_count, spelling_at};
 ghost use Rattle.rules.specs.Pairs.{kind_number};

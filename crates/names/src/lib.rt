@@ -1,5 +1,7 @@
 // Where the names of a text lead: each use to the definition that it names, each definition to its node, "through other names if need be".
 // The definitions are in specs/Following.antt.
+#![tactic(auto)]
+
 ghost use Rattle.std.specs.Prelude.{◌≡◌, ◌<◌, ◌≤◌, length};
 ghost use Rattle.rules.specs.Numbers.{text_most, definitions_most};
 ghost use Rattle.names.specs.Following.{OwnersFound, Followable, EndsFound, leads};

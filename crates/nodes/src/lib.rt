@@ -1,6 +1,8 @@
 // What is read of a node: its kind, the counts and the continuation that its kind has, an item or a label at a position, and a label's
 // bytes. Each function answers the definition of its name in `rules`, for any node and any name bytes, and asks nothing of its caller;
 // `label_end` is plain arithmetic. Whoever asks for items and labels below their counts reads no unused room. It calls no other crate.
+#![tactic(auto)]
+
 ghost use Rattle.std.specs.Prelude.{◌≡◌, ◌+◌};
 ghost use Rattle.rules.specs.Tables.{is_message, is_choice, item_count, label_count, continuation, item_at, label_at, spelling, spelling_at};
 

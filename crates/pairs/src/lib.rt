@@ -1,6 +1,8 @@
 // Two nodes beside each other: what is wrong with them, and where their steps lead. x is the left node, with its name bytes xs, and y the
 // right one, with ys. Nodes come by value and tables not at all, so that a search takes each node out of its table once. Labels are
 // compared where they stand in the name bytes, by the crate `words`.
+#![tactic(auto)]
+
 ghost use Rattle.std.specs.Prelude.{true, false, not, ◌≡◌, ◌<◌, ◌≤◌};
 ghost use Rattle.rules.specs.Basics.{first, same};
 ghost use Rattle.rules.specs.Numbers.{items_most, labels_most};
@@ -24,14 +26,14 @@ pub const TURNS: usize = 2;
 pub const LABEL_MISSING: usize = 23;
 
 // What is wrong with two nodes, and, where nothing is, the position in the other list of each label of the chooser.
-#[derive(Drop)]
+#[derive(Clone, Copy)]
 pub struct Compared {
     pub wrong: Mismatch,
     pub places: [u8; LABELS_MOST],
 }
 
 // Where a step leads: to a node on the left and one on the right, and whether left and right then change places.
-#[derive(Drop)]
+#[derive(Clone, Copy)]
 pub enum Onward {
     Onto { left: u8, right: u8, turns: bool },
     Nowhere,

@@ -1,5 +1,7 @@
 // What the programs `verdict` and `compatible` share: the line for what stands on standard input. After a failed read no line is printed, and
 // standard error says what failed.
+#![tactic(auto)]
+
 ghost use Rattle.std.specs.Prelude.{◌≡◌, length};
 ghost use Rattle.rules.specs.Writing.{PrintsInto};
 ghost use Rattle.lines.specs.Asking.{asked};

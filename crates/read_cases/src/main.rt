@@ -3,6 +3,8 @@
 // must be answered, written by hand from the documents: a line for each case, its name, a colon and the answer. Of a text that is taken the
 // answer has the start and then each node in order: its sign, its items or labels, and where they lead (`>`); behind a message's items
 // follows where it goes on.
+#![tactic(auto)]
+
 mod broken;
 mod limits;
 mod order;

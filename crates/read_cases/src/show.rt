@@ -5,7 +5,7 @@ use showing::print_made;
 use table::answers::Answer;
 
 // A refusal's number and place; number 0 stands for a text that is taken.
-#[derive(Drop)]
+#[derive(Clone, Copy)]
 pub struct Refusal {
     pub number: usize,
     pub place: usize,

@@ -7,7 +7,7 @@ use showing::parts::front;
 // More than the longest text here.
 pub const ROOM: usize = 4200;
 
-#[derive(Drop)]
+#[derive(Clone, Copy)]
 pub struct Text {
     pub bytes: [u8; ROOM],
     pub len: usize,

@@ -1,4 +1,6 @@
 // Reading a text: from its bytes to its table, or to the refusal that goes first.
+#![tactic(auto)]
+
 mod definitions;
 
 ghost use Rattle.rules.specs.Notation.{Text};

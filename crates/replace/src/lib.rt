@@ -1,6 +1,8 @@
 // Whether one table may replace another. `may_replace` gives every two tables, with any name bytes and any lent areas, the reply that
 // `Replaces` of `rules` allows, and asks nothing of its caller. The search goes over pairs, breadth first, in the lent areas alone: the
 // crate `search` keeps them, the crate `pairs` says what is wrong with a pair and where its steps lead.
+#![tactic(auto)]
+
 ghost use Rattle.std.specs.Prelude.{true, ◌≡◌, ◌*◌, ◌<◌, ◌≤◌, length};
 ghost use Rattle.rules.specs.Numbers.{table_nodes_most, labels_most};
 ghost use Rattle.rules.specs.Formed.{well_formed};
@@ -22,7 +24,7 @@ use table::{LABELS_MOST, Node, Table};
 pub const AREA_TOO_SHORT: usize = 11;
 
 // The node counts of the two tables.
-#[derive(Drop)]
+#[derive(Clone, Copy)]
 struct Sizes {
     pub new: usize,
     pub old: usize,
@@ -118,7 +120,7 @@ fn expand(
 }
 
 // What came of an entry: what is wrong with its pair, and the queue's end, with what its steps lead to where nothing is wrong.
-#[derive(Drop)]
+#[derive(Clone, Copy)]
 struct Taken {
     pub wrong: Mismatch,
     pub tail: usize,
@@ -188,7 +190,7 @@ fn take_nodes(
 }
 
 // Where the search ended: at the queue's end, or at the first entry with something wrong.
-#[derive(Drop)]
+#[derive(Clone, Copy)]
 struct Ended {
     pub at: usize,
     pub tail: usize,

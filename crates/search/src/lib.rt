@@ -2,6 +2,8 @@
 // the number of what is searched, and its mark stands there. While the search goes on a mark is 0, or one more than the number of the step
 // that first led to the place; scratch holds the queue of places in its first half and each entry's parent in its second.
 // It calls no other crate.
+#![tactic(auto)]
+
 ghost use Rattle.std.specs.Prelude.{◌≡◌, ◌++◌, map, ◌+◌, ◌-◌, ◌≤◌, ◌<◌, length, get_or, set, drop, replicate};
 ghost use Rattle.search.specs.Queue.{Queue, Entry, begun, visited, run_at, settled, RunLeft};
 

@@ -1,5 +1,7 @@
 // What the programs that run cases share. Here, how they print what was made: of a table the start and then each node in order, its sign,
 // its items or labels, and where they lead (`>`); behind a message's items follows where it goes on. Of a refusal number and place.
+#![tactic(auto)]
+
 pub mod parts;
 pub mod room;
 pub mod rubbish;

@@ -1,5 +1,7 @@
 // The table, made from the numbers that the readers wrote (see the crate `flat`). Each function answers the definition of its name in
 // specs/Making.antt; that they make the text's table is proved in proofs/FromText.antt.
+#![tactic(auto)]
+
 ghost use Rattle.std.specs.Prelude.{◌≡◌, ◌+◌, ◌<◌};
 ghost use Rattle.rules.specs.Numbers.{text_most, text_nodes_most};
 ghost use Rattle.flat.specs.Flat.{a_session};

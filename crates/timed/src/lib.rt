@@ -1,5 +1,7 @@
 // What the benchmarks time of the parts below the printed line, through C. Each answers a number that depends on what was made, so that the
 // compiler can leave none of it out.
+#![tactic(auto)]
+
 use dual::dual;
 use reader::read;
 use replace::may_replace;

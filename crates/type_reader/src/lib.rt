@@ -1,5 +1,7 @@
 // The reader of types: it calls itself for items, labels and continuations, and writes what it finds as plain numbers into lent areas, from
 // which the table is made at the end. No table goes through the calls.
+#![tactic(auto)]
+
 ghost use Rattle.std.specs.Prelude.{◌≡◌, ◌+◌, ◌*◌, ◌<◌, ◌≤◌, ltb, length};
 ghost use Rattle.rules.specs.Words.{word_most};
 ghost use Rattle.rules.specs.Notation.{Way};
@@ -64,7 +66,7 @@ const COLON: u16 = b':' as u16;
 const BAR: u16 = b'|' as u16;
 
 // What was read, with the cursor behind it: of a type its link, of a list its count; or a refusal.
-#[derive(Drop)]
+#[derive(Clone, Copy)]
 pub enum Got {
     Past { value: u16, next: Cursor },
     Refused { number: usize, place: usize },

@@ -2,6 +2,8 @@
 // handed in as a part of the caller's bytes, `&s[a..e]`, and read where it stands; nothing is copied. Each function answers the
 // definition of its name in `rules` (`same_bytes` answers `same`), for any bytes, and asks nothing of its caller. It takes no table and
 // calls no other crate.
+#![tactic(auto)]
+
 ghost use Rattle.std.specs.Prelude.{◌≡◌, ◌<◌, [], length, get_or};
 ghost use Rattle.rules.specs.Basics.{same};
 ghost use Rattle.rules.specs.Words.{blank, letter, word_byte, word_bytes, is_word, reserved_words, reserved_position, may_name};

@@ -1,0 +1,27 @@
+-- `formed::items_formed` meets its contract: the items below `i` are formed.
+-- Assumes nothing.
+use borrow.Author.Rules.{rules}
+use mathlib.Core.Bool.{true}
+use mathlib.Core.Path.{◌≡◌, ap, ◌∙◌}
+use Prim.Native.Nat.{ℕ, ◌≤◌, ◌<◌, ◌-◌}
+use native.Mathlib.Omega.{arith}
+use Rattle.rules.specs.Tables.{item_at}
+use Rattle.rules.specs.Formed.{item_formed}
+use Rattle.rules.proofs.Basics.{every_stopped, every_passed, every-ended}
+use Rattle.formed.proofs.items_formed.Goals as goal
+
+pub loop-i-init : goal.loop-i-init
+loop-i-init c = (omega arith, λ j l. absurd (omega arith))
+
+pub returns-then-not-item_formed : goal.returns-then-not-item_formed
+returns-then-not-item_formed c = every_stopped _ _ _ (omega arith) (c.item_formed.ensures ∙ ap (item_formed _) c.item_at.ensures) c.if-not-item_formed.true-raw
+
+pub loop-i-preserved : goal.loop-i-preserved
+loop-i-preserved c = (
+  omega arith,
+  every_passed _ _ c.loop-i.invariant.1
+      (c.item_formed.ensures ∙ ap (item_formed _) c.item_at.ensures) c.if-not-item_formed.false-raw,
+)
+
+pub returns : goal.returns
+returns c = every-ended _ _ _ (omega arith) c.loop-i.invariant.1

@@ -1,0 +1,13 @@
+-- `search::write_path` meets its contract: what is written from j on, behind the run to i, is the run to `at` and what stands beyond it.
+-- Assumes nothing.
+use borrow.Author.Rules.{rules}
+use native.Mathlib.Omega.{arith}
+use mathlib.Core.Path.{◌∙◌}
+use Rattle.search.proofs.Loops.{Written, entry_fits, write_begin, write_turn, write_end}
+use Rattle.search.proofs.write_path.Given as goal
+
+abbrev pub invariant-loop-j : goal.invariant-loop-j
+invariant-loop-j l = Written l.size l.marks l.scratch l.at l.steps l.initial.path l.path l.i l.j
+
+abbrev pub decreases-loop-j : goal.decreases-loop-j
+decreases-loop-j l = l.j

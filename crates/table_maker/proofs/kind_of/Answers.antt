@@ -1,0 +1,25 @@
+-- `table_maker::kind_of` meets its contract.
+-- Assumes nothing.
+use borrow.Author.Tests.{eq-eqb, ne_eqb}
+use Rattle.table_maker.specs.Making.{kind_of}
+use Rattle.table_maker.proofs.kind_of.Goals as goal
+
+pub returns-then-k-eq0 : goal.returns-then-k-eq0
+unfolding kind_of
+returns-then-k-eq0 c = simp (kind_of, eq-eqb _ _ c.if-k-eq0.true)
+
+pub returns-then-k-eq1 : goal.returns-then-k-eq1
+unfolding kind_of
+returns-then-k-eq1 c = simp (kind_of, ne_eqb _ _ c.if-k-eq0.false, eq-eqb _ _ c.if-k-eq1.true)
+
+pub returns-then-k-eq2 : goal.returns-then-k-eq2
+unfolding kind_of
+returns-then-k-eq2 c = simp (kind_of, ne_eqb _ _ c.if-k-eq0.false, ne_eqb _ _ c.if-k-eq1.false, eq-eqb _ _ c.if-k-eq2.true)
+
+pub returns-then-k-eq3 : goal.returns-then-k-eq3
+unfolding kind_of
+returns-then-k-eq3 c = simp (kind_of, ne_eqb _ _ c.if-k-eq0.false, ne_eqb _ _ c.if-k-eq1.false, ne_eqb _ _ c.if-k-eq2.false, eq-eqb _ _ c.if-k-eq3.true)
+
+pub returns : goal.returns
+unfolding kind_of
+returns c = simp (kind_of, ne_eqb _ _ c.if-k-eq0.false, ne_eqb _ _ c.if-k-eq1.false, ne_eqb _ _ c.if-k-eq2.false, ne_eqb _ _ c.if-k-eq3.false)

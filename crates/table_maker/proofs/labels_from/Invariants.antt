@@ -1,0 +1,15 @@
+-- `table_maker::labels_from` meets its contract: the labels below `i` are made.
+-- Assumes nothing.
+use borrow.Author.Rules.{rules}
+use mathlib.Core.Path.{◌≡◌}
+use Prim.Native.Nat.{◌-◌, ◌≤◌}
+use native.Mathlib.Omega.{arith}
+use Rattle.table_maker.specs.Making.{labels_from}
+use Rattle.rules.proofs.Filling.{fills_none, fills_one, fills_all}
+use Rattle.table_maker.proofs.labels_from.Given as goal
+
+abbrev pub invariant-loop-i : goal.invariant-loop-i
+invariant-loop-i l = (l.i ≤ l.n) × (l.all ≡ labels_from l.owners l.ends l.nodes l.k l.i)
+
+abbrev pub decreases-loop-i : goal.decreases-loop-i
+decreases-loop-i l = l.n - l.i
