@@ -12,7 +12,7 @@ scripted() { # FILE SCRIPT
 cp -R bin "$tree/bin"
 mkdir -p "$tree/crates/below/src" "$tree/crates/verdict/src" "$tree/crates/compatible/src"
 printf '# crates\nverdict: below io\nbelow:\ncompatible: below\nbeside staticlib: below\n' >"$tree/crates.txt"
-echo source >"$tree/crates/below/src/lib.rt"
+echo source >"$tree/crates/below/src/lib"
 echo 'kit 1' >"$stand/identity"
 # This rt does what the file `check` says, at the top, for the crate that it was begun in, and counts how often it is asked to.
 scripted "$stand/rt" "case \$1 in
@@ -127,24 +127,24 @@ answers 'yes 7' 7 "where rt's own has gone"
 scripted crates/verdict/out/verdict 'cat >/dev/null; echo yes 1'
 answers 'yes 7' 7 "where rt's own is another one"
 scripted target/bin/verdict 'cat >/dev/null; echo yes 1'
-echo more >>crates/below/src/lib.rt
+echo more >>crates/below/src/lib
 answers 'yes 7' 8 'where the program is another one and a source has changed that it does not need'
 programs 'echo yes 8'
 checks "rm -f crates/\$crate/out/\$crate.stamp; $builds" # as rt does where a source has changed
-echo changed >crates/below/src/lib.rt
-touch -d '2001-01-01' crates/below/src/lib.rt
+echo changed >crates/below/src/lib
+touch -d '2001-01-01' crates/below/src/lib
 answers 'yes 8' 9 'where a source has changed'
 answers 'yes 8' 9 'where the changed source is built'
 echo '# a comment' >>crates.txt
 answers 'yes 8' 10 'where the list of crates has changed'
-: >crates/below/src/more.rt
+: >crates/below/src/more
 answers 'yes 8' 11 'where a source has come'
-rm crates/below/src/more.rt
+rm crates/below/src/more
 answers 'yes 8' 12 'where a source has gone'
 echo 'kit 2' >"$stand/identity"
 answers 'yes 8' 13 'where the toolchain is another one'
 checks 'exit 1'
-echo broken >crates/below/src/lib.rt
+echo broken >crates/below/src/lib
 for _ in 1 2; do
     gives 2 '' bin/verdict "$R" "$R"
     said '^verdict: rt run verdict failed, .*/target/built/verdict.log has what it printed$'
@@ -158,11 +158,11 @@ answers 'yes 8' 16 'where the sources are proved again'
 : >"$stand/identity"
 gives 2 '' bin/verdict "$R" "$R"
 echo 'kit 2' >"$stand/identity"
-mv crates/below/src/lib.rt elsewhere
-ln -s ../../../elsewhere crates/below/src/lib.rt
+mv crates/below/src/lib elsewhere
+ln -s ../../../elsewhere crates/below/src/lib
 gives 2 '' bin/verdict "$R" "$R"
 said 'some are links'
-mv elsewhere crates/below/src/lib.rt
+mv elsewhere crates/below/src/lib
 
 # What changes while rt is at work: a source, also one that is put back, and the toolchain
 while IFS= read -r change; do
@@ -174,8 +174,8 @@ while IFS= read -r change; do
     [ ! -e crates/verdict/out/verdict ] || differs "rt's own program was kept for what changed meanwhile"
     [ ! -e crates/below/out/rlib/stamp ] || differs "rt's stamp was kept for what changed meanwhile"
 done <<END
-echo meanwhile >>crates/below/src/lib.rt
-mv crates/below/src/lib.rt kept; echo 1 >crates/below/src/lib.rt; sleep 0.1; mv kept crates/below/src/lib.rt
+echo meanwhile >>crates/below/src/lib
+mv crates/below/src/lib kept; echo 1 >crates/below/src/lib; sleep 0.1; mv kept crates/below/src/lib
 echo kit 3 >'$stand/identity'
 rm -rf target
 END

@@ -76,7 +76,7 @@ version() {
         changed=$(sources) || fail "the sources in $root cannot all be read, or some are links"
         changed=", with changes that are not committed: sources $changed"
     fi
-    with=$(if have rt; then rt version; else toolchain; fi) && [[ -n $with ]] || fail 'rt is not on the PATH and has built no program here, so the toolchain is not known'
+    with=$(if have rt; then rt version </dev/null; else toolchain; fi) && [[ -n $with ]] || fail 'rt is not on the PATH and has built no program here, so the toolchain is not known'
     print "dzaghvori $commit$changed
 $with"
 }

@@ -38,7 +38,7 @@ toolchain() {
     elif rt=$(readlink -f -- "$(type -P rt)") && [[ -s ${rt%/bin/rt}/KIT-ID ]]; then
         cat -- "${rt%/bin/rt}/KIT-ID"
     else
-        rt version
+        rt version </dev/null
     fi
 }
 
