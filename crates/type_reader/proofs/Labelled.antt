@@ -219,7 +219,7 @@ module _ {s : List ℕ} (l : length s ≤ text_most) where
             let few₂ : behind x t.next.nodes ≤ text_nodes_most = rw (p.nodes ∙ ap (λ w. behind x w) n₃) at few in
             let fw = g.few in
             let w = row_at a₁ (node * room + list_from + n * row) t.at t.len link (omega arith) in
-            rw (add-one n, st)
+            rw (st, add-one n)
             (ap₂ (λ v ws. v ∷ ws) (ap₂ (λ q o. part s q o) w.0 w.1)
             (words_same s a (stored_label a₁ node n t link) (node * room + list_from) n (λ j e f.
             row_apart a₁ (node * room + list_from + n * row) t.at t.len link j (λ o. omega arith) (λ o. omega arith) (λ o. omega arith) ∙ kept.each j (omega arith))))

@@ -12,7 +12,7 @@ use lib.ListN.{length}
 use Rattle.rules.specs.Words.{word_most, reserved_words}
 use Rattle.rules.specs.Tokens.{Token, Symbol, word, reserved_word, one_byte, symbol, symbols}
 use Rattle.rules.specs.Numbers.{text_most, text_nodes_most, items_most, brackets_most}
-use Rattle.rules.specs.Refusals.{Begins, an_item, nothing_new, Seen, innermost, entries_after, names_after, seen_after, unexpected}
+use Rattle.rules.specs.Refusals.{Begins, a_definition, a_label, an_item, nothing_new, Seen, innermost, entries_after, names_after, seen_after, unexpected}
 use Rattle.rules.specs.computed.Reading.{token_fault, lowest}
 use Rattle.rules.proofs.Machine.{Expect, Stack, on, stuck, step}
 use Rattle.rules.proofs.Reached.{Reached, Refuses, reached_on, reached_fault}
@@ -96,3 +96,5 @@ fault_here u y nothing_new n ns bs e l alone = fault_symbol u y e (counted nothi
 fault_here u y an_item n ns bs e l (as_item h) =
     fault_symbol u y e (counted an_item n ns bs) l
     ∙ rw (lt-leb items_most (length (innermost bs)) h, or_nothing (begins_symbol y && leb text_nodes_most n)) refl
+fault_here u y a_definition n ns bs e l h = elim h [ ]
+fault_here u y a_label n ns bs e l h = elim h [ ]

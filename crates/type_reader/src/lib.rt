@@ -305,7 +305,7 @@ fn store_label(nodes: &mut [u16; TEXT_MOST], node: usize, n: usize, t: Taken, li
 }
 
 // The type whose first token is t, inside `deep` open brackets.
-#[cycle(read_choice_read_item_read_items_read_label_read_labels_read_message_read_type)]
+#[cycle(types)]
 pub fn read_type(
     s: &[u8],
     nodes: &mut [u16; TEXT_MOST],
@@ -352,7 +352,7 @@ pub fn read_type(
 }
 
 // The message whose sign is t.
-#[cycle(read_choice_read_item_read_items_read_label_read_labels_read_message_read_type)]
+#[cycle(types)]
 fn read_message(
     s: &[u8],
     nodes: &mut [u16; TEXT_MOST],
@@ -406,7 +406,7 @@ fn read_message(
 
 // The items of a node, behind its opening bracket; the value is their count. They are read in a loop, so that only types inside types take
 // stack.
-#[cycle(read_choice_read_item_read_items_read_label_read_labels_read_message_read_type)]
+#[cycle(types)]
 fn read_items(
     s: &[u8],
     nodes: &mut [u16; TEXT_MOST],
@@ -451,7 +451,7 @@ fn read_items(
 }
 
 // The item whose first token is t, behind n others of its node.
-#[cycle(read_choice_read_item_read_items_read_label_read_labels_read_message_read_type)]
+#[cycle(types)]
 fn read_item(
     s: &[u8],
     nodes: &mut [u16; TEXT_MOST],
@@ -491,7 +491,7 @@ fn read_item(
 }
 
 // The choice whose sign is t.
-#[cycle(read_choice_read_item_read_items_read_label_read_labels_read_message_read_type)]
+#[cycle(types)]
 fn read_choice(
     s: &[u8],
     nodes: &mut [u16; TEXT_MOST],
@@ -530,7 +530,7 @@ fn read_choice(
 
 // The labels of a node, behind its opening brace; the value is their count. They are read in a loop, so that only types inside types take
 // stack.
-#[cycle(read_choice_read_item_read_items_read_label_read_labels_read_message_read_type)]
+#[cycle(types)]
 fn read_labels(
     s: &[u8],
     nodes: &mut [u16; TEXT_MOST],
@@ -570,7 +570,7 @@ fn read_labels(
 }
 
 // The label t, behind n others of its node, and its type.
-#[cycle(read_choice_read_item_read_items_read_label_read_labels_read_message_read_type)]
+#[cycle(types)]
 fn read_label(
     s: &[u8],
     nodes: &mut [u16; TEXT_MOST],

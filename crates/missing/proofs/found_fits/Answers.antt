@@ -71,5 +71,5 @@ returns c =
     sym c.well_formed-3.ensures
     ∙ not-false _ c.if-not-well_formed-2.false-raw in
     c.nodes_fit.ensures
-    ∙ sym (fits_by_nodes a.t1 a.new_names.now a.t3 a.old_names.now a.found (omega arith) new_formed old_formed
+    ∙ sym (fits_by_nodes a.new a.new_names.now a.old a.old_names.now a.found (omega arith) new_formed old_formed
     (omega arith) (omega arith) (omega arith))
