@@ -49,7 +49,7 @@ pub extern "C" fn dzaghvori_verdict(
     line: &mut [u8],
     short: &mut usize,
 ) -> usize
-    ensures { Tells may_replace new.now old.now (record { lent = record { marks = marks.entry.now; path = path.old; scratch = scratch.old }; line = line.old }) (record { lent = record { marks = marks.exit.now; path = path.new; scratch = scratch.new }; line = line.new }) result short.new }
+    ensures { Tells may_replace new.now old.now (record { lent = record { marks = marks.old; path = path.old; scratch = scratch.old }; line = line.old }) (record { lent = record { marks = marks.new; path = path.new; scratch = scratch.new }; line = line.new }) result short.new }
 {
     let written = verdict_line(new, old, marks, path, scratch, line);
     tell(written, short)
@@ -66,7 +66,7 @@ pub extern "C" fn dzaghvori_compatible(
     line: &mut [u8],
     short: &mut usize,
 ) -> usize
-    ensures { Tells is_compatible new.now other.now (record { lent = record { marks = marks.entry.now; path = path.old; scratch = scratch.old }; line = line.old }) (record { lent = record { marks = marks.exit.now; path = path.new; scratch = scratch.new }; line = line.new }) result short.new }
+    ensures { Tells is_compatible new.now other.now (record { lent = record { marks = marks.old; path = path.old; scratch = scratch.old }; line = line.old }) (record { lent = record { marks = marks.new; path = path.new; scratch = scratch.new }; line = line.new }) result short.new }
 {
     let written = compatible_line(new, other, marks, path, scratch, line);
     tell(written, short)

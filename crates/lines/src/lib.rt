@@ -82,7 +82,7 @@ fn write_line(
     line: &mut [u8],
 ) -> Written
     requires { Reads new.now first × Reads old.now second }
-    ensures { WritesLine (asked compatible) new.now old.now (record { lent = record { marks = marks.entry.now; path = path.old; scratch = scratch.old }; line = line.old }) (record { lent = record { marks = marks.exit.now; path = path.new; scratch = scratch.new }; line = line.new }) result }
+    ensures { WritesLine (asked compatible) new.now old.now (record { lent = record { marks = marks.old; path = path.old; scratch = scratch.old }; line = line.old }) (record { lent = record { marks = marks.new; path = path.new; scratch = scratch.new }; line = line.new }) result }
 {
     let answer = first.answer;
     if let Answer::Refused { number, place } = answer {
@@ -115,7 +115,7 @@ pub fn verdict_line(
     scratch: &mut [u16],
     line: &mut [u8],
 ) -> Written
-    ensures { WritesLine may_replace new.now old.now (record { lent = record { marks = marks.entry.now; path = path.old; scratch = scratch.old }; line = line.old }) (record { lent = record { marks = marks.exit.now; path = path.new; scratch = scratch.new }; line = line.new }) result }
+    ensures { WritesLine may_replace new.now old.now (record { lent = record { marks = marks.old; path = path.old; scratch = scratch.old }; line = line.old }) (record { lent = record { marks = marks.new; path = path.new; scratch = scratch.new }; line = line.new }) result }
 {
     let first = read(new);
     let second = read(old);
@@ -131,7 +131,7 @@ pub fn compatible_line(
     scratch: &mut [u16],
     line: &mut [u8],
 ) -> Written
-    ensures { WritesLine is_compatible new.now other.now (record { lent = record { marks = marks.entry.now; path = path.old; scratch = scratch.old }; line = line.old }) (record { lent = record { marks = marks.exit.now; path = path.new; scratch = scratch.new }; line = line.new }) result }
+    ensures { WritesLine is_compatible new.now other.now (record { lent = record { marks = marks.old; path = path.old; scratch = scratch.old }; line = line.old }) (record { lent = record { marks = marks.new; path = path.new; scratch = scratch.new }; line = line.new }) result }
 {
     let first = read(new);
     let second = read(other);
@@ -171,7 +171,7 @@ pub fn verdict_of_input(
     scratch: &mut [u16],
     line: &mut [u8],
 ) -> Written
-    ensures { WritesLine may_replace (first_text input.now) (second_text input.now) (record { lent = record { marks = marks.entry.now; path = path.old; scratch = scratch.old }; line = line.old }) (record { lent = record { marks = marks.exit.now; path = path.new; scratch = scratch.new }; line = line.new }) result }
+    ensures { WritesLine may_replace (first_text input.now) (second_text input.now) (record { lent = record { marks = marks.old; path = path.old; scratch = scratch.old }; line = line.old }) (record { lent = record { marks = marks.new; path = path.new; scratch = scratch.new }; line = line.new }) result }
 {
     let k = first_zero(input);
     let old = behind_zero(input, k);
@@ -186,7 +186,7 @@ pub fn compatible_of_input(
     scratch: &mut [u16],
     line: &mut [u8],
 ) -> Written
-    ensures { WritesLine is_compatible (first_text input.now) (second_text input.now) (record { lent = record { marks = marks.entry.now; path = path.old; scratch = scratch.old }; line = line.old }) (record { lent = record { marks = marks.exit.now; path = path.new; scratch = scratch.new }; line = line.new }) result }
+    ensures { WritesLine is_compatible (first_text input.now) (second_text input.now) (record { lent = record { marks = marks.old; path = path.old; scratch = scratch.old }; line = line.old }) (record { lent = record { marks = marks.new; path = path.new; scratch = scratch.new }; line = line.new }) result }
 {
     let k = first_zero(input);
     let other = behind_zero(input, k);

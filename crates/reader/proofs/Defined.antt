@@ -103,7 +103,7 @@ module _ {s : List ℕ} (l : length s ≤ text_most) (a b d : List ℕ) {t : Tak
             let few = name.few in
             let w = row_at d (n * row) t.at t.len link (omega arith) in
             let z = zero-add (n * row) in
-            rw (add-one n, st)
+            rw (st, add-one n)
             (ap₂ (λ v ws. v ∷ ws)
             (ap₂ (λ p q. part s p q) (ap (λ i. get_or (stored_definition d n t link) i 0) z ∙ w.0) (ap (λ i. get_or (stored_definition d n t link) (i + 1) 0) z ∙ w.1))
             (words_same s d (stored_definition d n t link) 0 n (λ j e f. row_apart d (n * row) t.at t.len link j (λ o. omega arith) (λ o. omega arith) (λ o. omega arith))))

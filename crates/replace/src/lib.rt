@@ -82,7 +82,7 @@ fn take_step(
     scratch: &mut [u16],
 ) -> usize
     requires { Ready sizes.new sizes.old turn at (record { marks = marks.now; scratch = scratch.old; tail = tail }) × Leading sizes.new sizes.old turn left right places × (s < labels_most) }
-    ensures { StepTaken sizes.new sizes.old turn at left right places s (record { marks = marks.entry.now; scratch = scratch.old; tail = tail }) (record { marks = marks.exit.now; scratch = scratch.new; tail = result }) }
+    ensures { StepTaken sizes.new sizes.old turn at left right places s (record { marks = marks.old; scratch = scratch.old; tail = tail }) (record { marks = marks.new; scratch = scratch.new; tail = result }) }
 {
     let onward = step(left, right, places, s);
     match onward {
@@ -107,7 +107,7 @@ fn expand(
     scratch: &mut [u16],
 ) -> usize
     requires { Ready sizes.new sizes.old turn at (record { marks = marks.now; scratch = scratch.old; tail = tail }) × Leading sizes.new sizes.old turn left right places }
-    ensures { StepsTaken sizes.new sizes.old turn at left right places labels_most (record { marks = marks.entry.now; scratch = scratch.old; tail = tail }) (record { marks = marks.exit.now; scratch = scratch.new; tail = result }) }
+    ensures { StepsTaken sizes.new sizes.old turn at left right places labels_most (record { marks = marks.old; scratch = scratch.old; tail = tail }) (record { marks = marks.new; scratch = scratch.new; tail = result }) }
 {
     let limit = step_limit(left, right);
     let mut end = tail;
@@ -151,7 +151,7 @@ fn take_pair(
     scratch: &mut [u16],
 ) -> Taken
     requires { Ready sizes.new sizes.old turn at (record { marks = marks.now; scratch = scratch.old; tail = tail }) × Formed sizes.new sizes.old turn left left_names.now right right_names.now }
-    ensures { Takes sizes.new sizes.old turn at left left_names.now right right_names.now (record { marks = marks.entry.now; scratch = scratch.old; tail = tail }) (record { marks = marks.exit.now; scratch = scratch.new; tail = result.tail }) result }
+    ensures { Takes sizes.new sizes.old turn at left left_names.now right right_names.now (record { marks = marks.old; scratch = scratch.old; tail = tail }) (record { marks = marks.new; scratch = scratch.new; tail = result.tail }) result }
 {
     let compared = compare(left, left_names, right, right_names);
     let wrong = compared.wrong;
@@ -177,7 +177,7 @@ fn take_nodes(
     scratch: &mut [u16],
 ) -> Taken
     requires { Ready sizes.new sizes.old turn at (record { marks = marks.now; scratch = scratch.old; tail = tail }) × Formed sizes.new sizes.old turn (left_in turn new old) (left_in turn new_names.now old_names.now) (right_in turn new old) (right_in turn new_names.now old_names.now) }
-    ensures { Takes sizes.new sizes.old turn at (left_in turn new old) (left_in turn new_names.now old_names.now) (right_in turn new old) (right_in turn new_names.now old_names.now) (record { marks = marks.entry.now; scratch = scratch.old; tail = tail }) (record { marks = marks.exit.now; scratch = scratch.new; tail = result.tail }) result }
+    ensures { Takes sizes.new sizes.old turn at (left_in turn new old) (left_in turn new_names.now old_names.now) (right_in turn new old) (right_in turn new_names.now old_names.now) (record { marks = marks.old; scratch = scratch.old; tail = tail }) (record { marks = marks.new; scratch = scratch.new; tail = result.tail }) result }
 {
     if turn == 0 {
         return take_pair(
@@ -294,7 +294,7 @@ pub fn decide(
     scratch: &mut [u16],
 ) -> Verdict
     requires { NoRefusal new new_names.now old old_names.now (record { marks = marks.now; path = path.old; scratch = scratch.old }) }
-    ensures { Replaces new new_names.now old old_names.now (record { marks = marks.entry.now; path = path.old; scratch = scratch.old }) (record { marks = marks.exit.now; path = path.new; scratch = scratch.new }) result }
+    ensures { Replaces new new_names.now old old_names.now (record { marks = marks.old; path = path.old; scratch = scratch.old }) (record { marks = marks.new; path = path.new; scratch = scratch.new }) result }
 {
     let n = new.count as usize;
     let m = old.count as usize;
@@ -328,7 +328,7 @@ pub fn may_replace(
     path: &mut [u16],
     scratch: &mut [u16],
 ) -> Verdict
-    ensures { Replaces new new_names.now old old_names.now (record { marks = marks.entry.now; path = path.old; scratch = scratch.old }) (record { marks = marks.exit.now; path = path.new; scratch = scratch.new }) result }
+    ensures { Replaces new new_names.now old old_names.now (record { marks = marks.old; path = path.old; scratch = scratch.old }) (record { marks = marks.new; path = path.new; scratch = scratch.new }) result }
 {
     if !well_formed(new, new_names) {
         return Verdict::Refused {

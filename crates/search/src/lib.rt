@@ -53,7 +53,7 @@ fn settle(marks: &mut [u8])
 // Whatever stood in the areas, the queue then holds the one place `start`, and nothing else is marked.
 pub fn begin(size: usize, start: usize, marks: &mut [u8], scratch: &mut [u16])
     requires { (start < size) × (size ≤ 32768) × (length marks.old ≡ size) × (length scratch.old ≡ size + size) }
-    ensures { record { marks = marks.exit.now; scratch = scratch.new; tail = 1 } ≡ begun size start }
+    ensures { record { marks = marks.new; scratch = scratch.new; tail = 1 } ≡ begun size start }
 {
     clear_marks(marks);
     clear_numbers(scratch);
@@ -72,7 +72,7 @@ pub fn visit(
     scratch: &mut [u16],
 ) -> usize
     requires { Queue size (record { marks = marks.now; scratch = scratch.old; tail = tail }) × (at < tail) × (step < 255) × (to < size) }
-    ensures { record { marks = marks.exit.now; scratch = scratch.new; tail = result } ≡ visited size at step to (record { marks = marks.entry.now; scratch = scratch.old; tail = tail }) }
+    ensures { record { marks = marks.new; scratch = scratch.new; tail = result } ≡ visited size at step to (record { marks = marks.old; scratch = scratch.old; tail = tail }) }
 {
     if marks[to] != 0 {
         return tail;
