@@ -1,7 +1,6 @@
 // Prints the line for what stands on standard input: is the first of its two texts compatible with the second?
 #![tactic(auto)]
 
-
-fn main() {
-    printer::answer_input(true);
+fn main(rt: HostRuntime) {
+    printer::answer_input(&rt, true);
 }

@@ -3,6 +3,7 @@ use dual::dual;
 use showing::print_made;
 use showing::room::print_room;
 use showing::rubbish::rubbish;
+use std::io;
 use table::{Item, Kind, Label, NODES_MOST, Node, Slot, Sort, Table};
 
 // A message of one item, and a choice of one label of two bytes, their unused room full of rubbish.
@@ -34,26 +35,28 @@ fn three(item: Item) -> Table {
     }
 }
 
-fn show(name: &[u8], t: Table, names: &[u8]) {
-    io::write_all(1, name);
-    io::write_all(1, b": ");
+fn show(rt: &impl Print, name: &[u8], t: Table, names: &[u8]) -> io::Result<()> {
+    rt.write_all(name)?;
+    rt.write_all(b": ")?;
     let made = dual(t, names);
-    print_made(names, made, false);
-    io::write_all(1, b"\n");
-    print_room(name, made.table);
+    print_made(rt, names, made, false)?;
+    rt.write_all(b"\n")?;
+    print_room(rt, name, made.table)
 }
 
-pub fn cases() {
-    show(b"rubbish", three(Item::OfSort(Sort::Void)), b"go");
-    show(b"rubbish and an item", three(Item::Session(0)), b"go");
+pub fn cases(rt: &impl Print) -> io::Result<()> {
+    show(rt, b"rubbish", three(Item::OfSort(Sort::Void)), b"go")?;
+    show(rt, b"rubbish and an item", three(Item::Session(0)), b"go")?;
     show(
+        rt,
         b"item that links past the nodes",
         three(Item::Session(3)),
         b"go",
-    );
+    )?;
     show(
+        rt,
         b"name bytes too short",
         three(Item::OfSort(Sort::Void)),
         b"g",
-    );
+    )
 }

@@ -8,8 +8,10 @@ mod made;
 mod sizes;
 mod texts;
 
-fn main() {
-    texts::cases();
-    made::cases();
-    sizes::cases();
+use std::io;
+
+fn main(rt: HostRuntime) -> io::Result<()> {
+    texts::cases(&rt)?;
+    made::cases(&rt)?;
+    sizes::cases(&rt)
 }

@@ -1,6 +1,7 @@
 // "A table has at most 128 nodes", and so has a dual: n without session items, 2n with any.
 use dual::dual;
 use showing::{print_node, print_refusal};
+use std::io;
 use table::answers::Answer;
 use table::{ITEMS_MOST, Item, Kind, LABELS_MOST, Label, NODES_MOST, Node, Slot, Sort, Table};
 
@@ -40,102 +41,116 @@ fn one_session(n: u8, k: usize) -> Table {
 }
 
 // A node of a table, with its number.
-fn print_seam(t: Table, i: usize) {
+fn print_seam(rt: &impl Print, t: Table, i: usize) -> io::Result<()> {
     if i < NODES_MOST {
-        io::write_all(1, b"; ");
-        io::print_decimal(1, i as u64);
-        io::write_all(1, b" ");
+        rt.write_all(b"; ")?;
+        rt.print(i)?;
+        rt.write_all(b" ")?;
         let x = t.nodes[i];
-        print_node(b"", x, false);
+        print_node(rt, b"", x, false)?;
     }
+    Ok(())
 }
 
 // The count and the seams of the dual of n nodes.
-fn print_seams(t: Table, n: usize) {
-    io::write_all(1, b"ok, ");
-    io::print_decimal(1, t.count as u64);
-    io::write_all(1, b" nodes, start ");
-    io::print_decimal(1, t.start as u64);
-    print_seam(t, 0);
+fn print_seams(rt: &impl Print, t: Table, n: usize) -> io::Result<()> {
+    rt.write_all(b"ok, ")?;
+    rt.print(t.count)?;
+    rt.write_all(b" nodes, start ")?;
+    rt.print(t.start)?;
+    print_seam(rt, t, 0)?;
     if 0 < n {
-        print_seam(t, n - 1);
+        print_seam(rt, t, n - 1)?;
     }
     let count = t.count as usize;
     if n < count {
-        print_seam(t, n);
-        print_seam(t, count - 1);
+        print_seam(rt, t, n)?;
+        print_seam(rt, t, count - 1)?;
     }
+    Ok(())
 }
 
-fn show(name: &[u8], t: Table) {
-    io::write_all(1, name);
-    io::write_all(1, b": ");
+fn show(rt: &impl Print, name: &[u8], t: Table) -> io::Result<()> {
+    rt.write_all(name)?;
+    rt.write_all(b": ")?;
     let made = dual(t, b"");
     let answer = made.answer;
     match answer {
         Answer::Accepted => {
-            print_seams(made.table, t.count as usize);
+            print_seams(rt, made.table, t.count as usize)?;
         }
         Answer::Refused { number, place } => {
-            print_refusal(number, place);
+            print_refusal(rt, number, place)?;
         }
     }
-    io::write_all(1, b"\n");
+    rt.write_all(b"\n")
 }
 
-fn without_items() {
+fn without_items(rt: &impl Print) -> io::Result<()> {
     show(
+        rt,
         b"128 nodes without items",
         messages(128, Item::OfSort(Sort::Float)),
-    );
+    )?;
     show(
+        rt,
         b"129 nodes without items",
         messages(129, Item::OfSort(Sort::Float)),
-    );
+    )?;
     show(
+        rt,
         b"255 nodes without items",
         messages(255, Item::OfSort(Sort::Float)),
-    );
-    show(b"no nodes", messages(0, Item::OfSort(Sort::Float)));
+    )?;
+    show(rt, b"no nodes", messages(0, Item::OfSort(Sort::Float)))
 }
 
-fn with_items() {
-    show(b"64 nodes with items", messages(64, Item::Session(63)));
-    show(b"65 nodes with items", messages(65, Item::Session(64)));
-    show(b"128 nodes with items", messages(128, Item::Session(127)));
-    show(b"129 nodes with items", messages(129, Item::Session(0)));
+fn with_items(rt: &impl Print) -> io::Result<()> {
+    show(rt, b"64 nodes with items", messages(64, Item::Session(63)))?;
+    show(rt, b"65 nodes with items", messages(65, Item::Session(64)))?;
+    show(
+        rt,
+        b"128 nodes with items",
+        messages(128, Item::Session(127)),
+    )?;
+    show(rt, b"129 nodes with items", messages(129, Item::Session(0)))
 }
 
 // "With any session item", in a node that nothing reaches.
-fn with_one() {
-    show(b"64 nodes, an item in the last", one_session(64, 63));
-    show(b"65 nodes, an item in the last", one_session(65, 64));
-    show(b"65 nodes, an item behind the last", one_session(65, 65));
+fn with_one(rt: &impl Print) -> io::Result<()> {
+    show(rt, b"64 nodes, an item in the last", one_session(64, 63))?;
+    show(rt, b"65 nodes, an item in the last", one_session(65, 64))?;
+    show(
+        rt,
+        b"65 nodes, an item behind the last",
+        one_session(65, 65),
+    )
 }
 
 // "10 (place 1), 13"
-fn order() {
+fn order(rt: &impl Print) -> io::Result<()> {
     show(
+        rt,
         b"65 nodes, an item that links past them",
         messages(65, Item::Session(65)),
-    );
+    )?;
     let mut t = messages(65, Item::Session(0));
     t.start = 65;
-    show(b"65 nodes with items, a start past them", t);
+    show(rt, b"65 nodes with items, a start past them", t)
 }
 
 // A dual of 66 nodes is a table too, and has no dual.
-fn twice() {
+fn twice(rt: &impl Print) -> io::Result<()> {
     let t = messages(33, Item::Session(0));
-    show(b"33 nodes with items", t);
+    show(rt, b"33 nodes with items", t)?;
     let made = dual(t, b"");
-    show(b"33 nodes with items, twice", made.table);
+    show(rt, b"33 nodes with items, twice", made.table)
 }
 
-pub fn cases() {
-    without_items();
-    with_items();
-    with_one();
-    order();
-    twice();
+pub fn cases(rt: &impl Print) -> io::Result<()> {
+    without_items(rt)?;
+    with_items(rt)?;
+    with_one(rt)?;
+    order(rt)?;
+    twice(rt)
 }

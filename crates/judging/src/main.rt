@@ -6,6 +6,7 @@ ghost use Rattle.std.specs.Prelude.{◌≡◌, ◌<◌, length};
 ghost use Rattle.rules.specs.Numbers.{table_nodes_most};
 
 use formed::well_formed;
+use std::io;
 use table::{ITEMS_MOST, Item, Kind, LABELS_MOST, Label, NODES_MOST, Node, Slot, Sort, Table};
 use words::WORD_MOST;
 
@@ -24,10 +25,8 @@ fn many_names() -> [u8; NAMES]
     ensures { 32768 ≡ length result }
 {
     let mut names = [0u8; NAMES];
-    let mut i = 0;
-    while i < NAMES {
+    for i in 0..NAMES {
         names[i] = SPELLED[i % CHOICE];
-        i += 1;
     }
     names
 }
@@ -40,14 +39,12 @@ fn choice(node: usize) -> Node
         len: 0,
         to: 0,
     }; LABELS_MOST];
-    let mut i = 0;
-    while i < LABELS_MOST {
+    for i in 0..LABELS_MOST {
         labels[i] = Label {
             at: (node * CHOICE + i * WORD_MOST) as u16,
             len: WORD_MOST as u8,
             to: node as u8,
         };
-        i += 1;
     }
     Node {
         kind: Kind::Choose,
@@ -63,10 +60,8 @@ fn choice(node: usize) -> Node
 
 fn largest() -> Table {
     let mut nodes = [choice(0); NODES_MOST];
-    let mut i = 0;
-    while i < NODES_MOST {
+    for i in 0..NODES_MOST {
         nodes[i] = choice(i);
-        i += 1;
     }
     Table {
         nodes,
@@ -80,20 +75,18 @@ fn first_letter(round: usize) -> u8 {
     if round % 2 == 0 { b'c' } else { b'C' }
 }
 
-fn main() {
+fn main(rt: HostRuntime) -> io::Result<()> {
     let mut t = largest();
     let mut names = many_names();
     let mut good: u64 = 0;
-    let mut round = 0;
-    while round < ROUNDS {
+    for round in 0..ROUNDS {
         // another table and other bytes each time, so that nothing is judged once for all
         t.start = (round % NODES_MOST) as u8;
         names[0] = first_letter(round);
         if well_formed(t, &names) {
             good += 1;
         }
-        round += 1;
     }
-    io::print_decimal(1, good);
-    io::write_all(1, b"\n");
+    rt.print(good)?;
+    rt.write_all(b"\n")
 }

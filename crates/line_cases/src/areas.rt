@@ -1,6 +1,7 @@
 // Areas of given lengths, cut from longer ones that are full of 7: the line of a case also says whether all that the answer does not use
 // stayed.
 use crate::show::{BYTE, Door, NUMBER, ask, print};
+use std::io;
 use table::answers::Written;
 
 // The most that is lent here of each.
@@ -34,23 +35,19 @@ impl Sizes {
 
 // Whether an area is as it was from `from` on.
 fn bytes_kept(s: &[u8], from: usize) -> bool {
-    let mut i = from;
-    while i < s.len() {
+    for i in from..s.len() {
         if s[i] != BYTE {
             return false;
         }
-        i += 1;
     }
     true
 }
 
 fn numbers_kept(s: &[u16], from: usize) -> bool {
-    let mut i = from;
-    while i < s.len() {
+    for i in from..s.len() {
         if s[i] != NUMBER {
             return false;
         }
-        i += 1;
     }
     true
 }
@@ -80,18 +77,18 @@ fn used(written: Written, verdict: Sizes) -> Sizes {
     }
 }
 
-fn print_number(n: usize) {
-    io::write_all(1, b" ");
-    io::print_decimal(1, n as u64);
+fn print_number(rt: &impl Print, n: usize) -> io::Result<()> {
+    rt.write_all(b" ")?;
+    rt.print(n)
 }
 
-fn print_name(name: &[u8], lent: Sizes) {
-    io::write_all(1, name);
-    io::write_all(1, b", areas of");
-    print_number(lent.marks);
-    print_number(lent.path);
-    print_number(lent.scratch);
-    print_number(lent.line);
+fn print_name(rt: &impl Print, name: &[u8], lent: Sizes) -> io::Result<()> {
+    rt.write_all(name)?;
+    rt.write_all(b", areas of")?;
+    print_number(rt, lent.marks)?;
+    print_number(rt, lent.path)?;
+    print_number(rt, lent.scratch)?;
+    print_number(rt, lent.line)
 }
 
 // The first of each area are lent; where there are not so many, all.
@@ -124,7 +121,15 @@ fn ask_lent(
 }
 
 // `verdict` is what a verdict on the two texts uses of the first three areas.
-pub fn show(door: Door, name: &[u8], first: &[u8], second: &[u8], verdict: Sizes, lent: Sizes) {
+pub fn show(
+    rt: &impl Print,
+    door: Door,
+    name: &[u8],
+    first: &[u8],
+    second: &[u8],
+    verdict: Sizes,
+    lent: Sizes,
+) -> io::Result<()> {
     let mut marks = [BYTE; MARKS];
     let mut path = [NUMBER; PATH];
     let mut scratch = [NUMBER; SCRATCH];
@@ -139,10 +144,10 @@ pub fn show(door: Door, name: &[u8], first: &[u8], second: &[u8], verdict: Sizes
         &mut line,
         lent,
     );
-    print_name(name, lent);
+    print_name(rt, name, lent)?;
     if kept(&marks, &path, &scratch, &line, used(written, verdict)) {
-        print(b"", b", the rest kept", written, &line);
+        print(rt, b"", b", the rest kept", written, &line)
     } else {
-        print(b"", b", the rest changed", written, &line);
+        print(rt, b"", b", the rest changed", written, &line)
     }
 }

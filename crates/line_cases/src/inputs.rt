@@ -3,10 +3,12 @@ use crate::lists::inputs;
 use crate::show::{Door, show, show_input};
 use crate::texts::put;
 use showing::parts::front;
+use std::io;
 
 // "Without a byte 0 the second text is empty; further zero bytes belong to the second."
-fn zeros() {
+fn zeros(rt: &impl Print) -> io::Result<()> {
     inputs(
+        rt,
         b"nothing: \n\
         zero alone: \x00\n\
         no zero: A = end .\n\
@@ -19,20 +21,22 @@ fn zeros() {
         zero behind the second: A = end .\x00B = end .\x00\n\
         zero inside the second: A = end .\x00B =\x00end .\n\
         three texts: A = end .\x00B = end .\x00C = end .\n",
-    );
+    )
 }
 
-fn line_feeds() {
-    show_input(b"line feed last", b"A = end .\x00B = end .\n");
+fn line_feeds(rt: &impl Print) -> io::Result<()> {
+    show_input(rt, b"line feed last", b"A = end .\x00B = end .\n")?;
     show_input(
+        rt,
         b"line feeds around the zero",
         b"A = end .\n\x00\nB = end .\n",
-    );
-    show_input(b"line feed alone for the second", b"A = end .\x00\n");
+    )?;
+    show_input(rt, b"line feed alone for the second", b"A = end .\x00\n")
 }
 
-fn which() {
+fn which(rt: &impl Print) -> io::Result<()> {
     inputs(
+        rt,
         b"first refused: A = B .\x00B = end .\n\
         second refused: A = end .\x00B = B .\n\
         both refused: A = A .\x00= end .\n\
@@ -43,56 +47,89 @@ fn which() {
         more commands and fewer: A = +{a: A | b: A} .\x00B = +{a: B} .\n\
         fewer replies and more commands: A = &{a: A} .\x00B = +{a: B | b: B} .\n\
         more replies and fewer commands: A = &{a: A | b: A} .\x00B = +{a: B} .\n",
-    );
+    )
 }
 
 // Two texts of blanks behind one definition each: the byte 0 stands behind the first `zero` bytes, and all are `len`.
-fn long(door: Door, name: &[u8], zero: usize, len: usize) {
+fn long(rt: &impl Print, door: Door, name: &[u8], zero: usize, len: usize) -> io::Result<()> {
     let mut room = [b' '; 8195];
     put(b"A = end .", 0, &mut room);
     let second = put(b"\x00", zero, &mut room);
     put(b"B = end .", second, &mut room);
-    show(door, name, b"", front(&room, len), b"");
+    show(rt, door, name, b"", front(&room, len), b"")
 }
 
 // A text has at most 4,096 bytes; the byte 0 belongs to neither.
-fn lengths() {
-    long(Door::VerdictOfInput, b"first of 4,096 bytes", 4096, 4106);
-    long(Door::VerdictOfInput, b"first of 4,097 bytes", 4097, 4107);
-    long(Door::VerdictOfInput, b"second of 4,096 bytes", 9, 4106);
-    long(Door::VerdictOfInput, b"second of 4,097 bytes", 9, 4107);
-    long(Door::VerdictOfInput, b"both of 4,096 bytes", 4096, 8193);
-    long(Door::VerdictOfInput, b"both of 4,097 bytes", 4097, 8195);
-    long(Door::VerdictOfInput, b"4,096 bytes and no zero", 4096, 4096);
-    long(Door::VerdictOfInput, b"4,097 bytes and no zero", 4097, 4097);
-    long(Door::VerdictOfInput, b"4,096 bytes and a zero", 4096, 4097);
+fn lengths(rt: &impl Print) -> io::Result<()> {
+    long(
+        rt,
+        Door::VerdictOfInput,
+        b"first of 4,096 bytes",
+        4096,
+        4106,
+    )?;
+    long(
+        rt,
+        Door::VerdictOfInput,
+        b"first of 4,097 bytes",
+        4097,
+        4107,
+    )?;
+    long(rt, Door::VerdictOfInput, b"second of 4,096 bytes", 9, 4106)?;
+    long(rt, Door::VerdictOfInput, b"second of 4,097 bytes", 9, 4107)?;
+    long(rt, Door::VerdictOfInput, b"both of 4,096 bytes", 4096, 8193)?;
+    long(rt, Door::VerdictOfInput, b"both of 4,097 bytes", 4097, 8195)?;
+    long(
+        rt,
+        Door::VerdictOfInput,
+        b"4,096 bytes and no zero",
+        4096,
+        4096,
+    )?;
+    long(
+        rt,
+        Door::VerdictOfInput,
+        b"4,097 bytes and no zero",
+        4097,
+        4097,
+    )?;
+    long(
+        rt,
+        Door::VerdictOfInput,
+        b"4,096 bytes and a zero",
+        4096,
+        4097,
+    )
 }
 
-fn lengths_compatible() {
+fn lengths_compatible(rt: &impl Print) -> io::Result<()> {
     long(
+        rt,
         Door::CompatibleOfInput,
         b"first of 4,097 bytes, compatible",
         4097,
         4107,
-    );
+    )?;
     long(
+        rt,
         Door::CompatibleOfInput,
         b"second of 4,096 bytes, compatible",
         9,
         4106,
-    );
+    )?;
     long(
+        rt,
         Door::CompatibleOfInput,
         b"second of 4,097 bytes, compatible",
         9,
         4107,
-    );
+    )
 }
 
-pub fn cases() {
-    zeros();
-    line_feeds();
-    which();
-    lengths();
-    lengths_compatible();
+pub fn cases(rt: &impl Print) -> io::Result<()> {
+    zeros(rt)?;
+    line_feeds(rt)?;
+    which(rt)?;
+    lengths(rt)?;
+    lengths_compatible(rt)
 }

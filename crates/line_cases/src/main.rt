@@ -20,16 +20,18 @@ mod show;
 mod spellings;
 mod texts;
 
-fn main() {
-    rows::cases();
-    named::cases();
-    reasons::cases();
-    runs::cases();
-    handed::cases();
-    refusals::cases();
-    spellings::cases();
-    lengths::cases();
-    inputs::cases();
-    limits::cases();
-    large::cases();
+use std::io;
+
+fn main(rt: HostRuntime) -> io::Result<()> {
+    rows::cases(&rt)?;
+    named::cases(&rt)?;
+    reasons::cases(&rt)?;
+    runs::cases(&rt)?;
+    handed::cases(&rt)?;
+    refusals::cases(&rt)?;
+    spellings::cases(&rt)?;
+    lengths::cases(&rt)?;
+    inputs::cases(&rt)?;
+    limits::cases(&rt)?;
+    large::cases(&rt)
 }

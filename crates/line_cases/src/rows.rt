@@ -2,28 +2,31 @@
 use crate::lists::{texts, verdicts};
 use crate::show::show_verdict;
 use crate::texts::{M, N, P, Q, R};
+use std::io;
 
-fn named() {
-    show_verdict(b"R, R", &R, &R);
-    show_verdict(b"N, R", &N, &R);
-    show_verdict(b"M, R", &M, &R);
-    show_verdict(b"R, M", &R, &M);
-    show_verdict(b"P, Q", &P, &Q);
-    show_verdict(b"Q, P", &Q, &P);
+fn named(rt: &impl Print) -> io::Result<()> {
+    show_verdict(rt, b"R, R", &R, &R)?;
+    show_verdict(rt, b"N, R", &N, &R)?;
+    show_verdict(rt, b"M, R", &M, &R)?;
+    show_verdict(rt, b"R, M", &R, &M)?;
+    show_verdict(rt, b"P, Q", &P, &Q)?;
+    show_verdict(rt, b"Q, P", &Q, &P)
 }
 
-fn written_out() {
+fn written_out(rt: &impl Print) -> io::Result<()> {
     verdicts(
+        rt,
         b"end and a message: A = end . / B = ?(); end .\n\
         no item and one: A = ?(); end . / B = ?(void); end .\n\
         string and float: A = ?(string); end . / B = ?(float); end .\n\
         rounds of one and two: A = ?(string); A . / B = ?(string); ?(string); B .\n",
-    );
+    )
 }
 
 // A row of the second table names the place in a text; the line also says which of the two it is.
-fn refused() {
+fn refused(rt: &impl Print) -> io::Result<()> {
     texts(
+        rt,
         b"empty: \n\
         no full stop: A = end\n\
         no label: A = +{} .\n\
@@ -32,11 +35,11 @@ fn refused() {
         never defined: A = B .\n\
         defined twice: A = end . A = end .\n\
         label twice: A = +{m: end | m: end} .\n",
-    );
+    )
 }
 
-pub fn cases() {
-    named();
-    written_out();
-    refused();
+pub fn cases(rt: &impl Print) -> io::Result<()> {
+    named(rt)?;
+    written_out(rt)?;
+    refused(rt)
 }

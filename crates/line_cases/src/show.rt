@@ -1,6 +1,7 @@
 // The line of a case: its name, a colon, and the line that is written for its texts, or number and place where an area is too short.
 use lines::{compatible_line, compatible_of_input, verdict_line, verdict_of_input};
 use showing::parts::front;
+use std::io;
 use table::answers::Written;
 
 // The areas for up to 160 pairs of nodes: 2 × n × m, 2 × n × m, 4 × n × m, and 6 × n × m + 18.
@@ -44,29 +45,38 @@ pub fn ask(
     }
 }
 
-fn print_refusal(number: usize, place: usize) {
-    io::print_decimal(1, number as u64);
-    io::write_all(1, b" at ");
-    io::print_decimal(1, place as u64);
-    io::write_all(1, b"\n");
+fn print_refusal(rt: &impl Print, number: usize, place: usize) -> io::Result<()> {
+    rt.print(number)?;
+    rt.write_all(b" at ")?;
+    rt.print(place)?;
+    rt.write_all(b"\n")
 }
 
 // A name in two parts, and what was answered, with the line's area.
-pub fn print(name: &[u8], which: &[u8], written: Written, line: &[u8]) {
-    io::write_all(1, name);
-    io::write_all(1, which);
-    io::write_all(1, b": ");
+pub fn print(
+    rt: &impl Print,
+    name: &[u8],
+    which: &[u8],
+    written: Written,
+    line: &[u8],
+) -> io::Result<()> {
+    rt.write_all(name)?;
+    rt.write_all(which)?;
+    rt.write_all(b": ")?;
     match written {
-        Written::Line(n) => {
-            io::write_all(1, front(line, n));
-        }
-        Written::Refused { number, place } => {
-            print_refusal(number, place);
-        }
+        Written::Line(n) => { rt.write_all(front(line, n)) }
+        Written::Refused { number, place } => { print_refusal(rt, number, place) }
     }
 }
 
-pub fn show(door: Door, name: &[u8], which: &[u8], first: &[u8], second: &[u8]) {
+pub fn show(
+    rt: &impl Print,
+    door: Door,
+    name: &[u8],
+    which: &[u8],
+    first: &[u8],
+    second: &[u8],
+) -> io::Result<()> {
     let mut marks = [BYTE; MARKS];
     let mut path = [NUMBER; PATH];
     let mut scratch = [NUMBER; SCRATCH];
@@ -80,25 +90,32 @@ pub fn show(door: Door, name: &[u8], which: &[u8], first: &[u8], second: &[u8]) 
         &mut scratch,
         &mut line,
     );
-    print(name, which, written, &line);
+    print(rt, name, which, written, &line)
 }
 
-pub fn show_verdict(name: &[u8], new: &[u8], old: &[u8]) {
-    show(Door::Verdict, name, b"", new, old);
+pub fn show_verdict(rt: &impl Print, name: &[u8], new: &[u8], old: &[u8]) -> io::Result<()> {
+    show(rt, Door::Verdict, name, b"", new, old)
 }
 
-pub fn show_compatible(name: &[u8], new: &[u8], other: &[u8]) {
-    show(Door::Compatible, name, b"", new, other);
+pub fn show_compatible(rt: &impl Print, name: &[u8], new: &[u8], other: &[u8]) -> io::Result<()> {
+    show(rt, Door::Compatible, name, b"", new, other)
 }
 
 // A text beside another one, as the first text and as the second.
-pub fn show_beside(name: &[u8], text: &[u8], other: &[u8]) {
-    show(Door::Verdict, name, b", first", text, other);
-    show(Door::Verdict, name, b", second", other, text);
+pub fn show_beside(rt: &impl Print, name: &[u8], text: &[u8], other: &[u8]) -> io::Result<()> {
+    show(rt, Door::Verdict, name, b", first", text, other)?;
+    show(rt, Door::Verdict, name, b", second", other, text)
 }
 
 // An input, for both questions.
-pub fn show_input(name: &[u8], input: &[u8]) {
-    show(Door::VerdictOfInput, name, b"", input, b"");
-    show(Door::CompatibleOfInput, name, b", compatible", input, b"");
+pub fn show_input(rt: &impl Print, name: &[u8], input: &[u8]) -> io::Result<()> {
+    show(rt, Door::VerdictOfInput, name, b"", input, b"")?;
+    show(
+        rt,
+        Door::CompatibleOfInput,
+        name,
+        b", compatible",
+        input,
+        b"",
+    )
 }

@@ -13,14 +13,12 @@ pub const Q: [u8; 32] = *b"Q = ![+{a: end | b: end}]; end .";
 // A part put behind the first `len` bytes of a text's room, as far as there is room; the place behind it.
 pub fn put(part: &[u8], len: usize, room: &mut [u8]) -> usize {
     let mut at = len;
-    let mut i = 0;
-    while i < part.len() {
+    for i in 0..part.len() {
         if room.len() <= at {
             return at;
         }
         room[at] = part[i];
         at += 1;
-        i += 1;
     }
     at
 }
@@ -28,10 +26,8 @@ pub fn put(part: &[u8], len: usize, room: &mut [u8]) -> usize {
 // A part n times.
 pub fn put_times(n: usize, part: &[u8], len: usize, room: &mut [u8]) -> usize {
     let mut at = len;
-    let mut i = 0;
-    while i < n {
+    for _ in 0..n {
         at = put(part, at, room);
-        i += 1;
     }
     at
 }
@@ -39,13 +35,11 @@ pub fn put_times(n: usize, part: &[u8], len: usize, room: &mut [u8]) -> usize {
 // n definitions: of each its name, two letters (`aa` for 0, `ba` for 1, `ab` for 26), and what stands behind it.
 pub fn put_definitions(n: usize, behind: &[u8], len: usize, room: &mut [u8]) -> usize {
     let mut at = len;
-    let mut k = 0;
-    while k < n {
+    for k in 0..n {
         let first = b'a' + (k % 26) as u8;
         let second = b'a' + (k / 26 % 26) as u8;
         at = put(&[first, second], at, room);
         at = put(behind, at, room);
-        k += 1;
     }
     at
 }

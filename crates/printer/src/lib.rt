@@ -7,7 +7,7 @@ ghost use Rattle.rules.specs.Writing.{PrintsInto};
 ghost use Rattle.lines.specs.Asking.{asked};
 ghost use Rattle.printer.specs.Lengths.{LengthOf};
 
-use input::{Input, read_input};
+use input::read_input;
 use lines::{compatible_of_input, verdict_of_input};
 use table::answers::Written;
 
@@ -53,22 +53,21 @@ fn line_for(compatible: bool, input: &[u8], line: &mut [u8]) -> usize
     length_of(written)
 }
 
-fn print_line(compatible: bool, input: &[u8]) {
+// Where the line cannot be written, standard error says so; where that cannot be written either, there is nobody left to tell.
+fn print_line(rt: &(impl Print + Eprint), compatible: bool, input: &[u8]) {
     let mut line = [0u8; LINE];
     let n = line_for(compatible, input, &mut line);
-    if !io::write_all(libc::STDOUT_FILENO, &line[..n]) {
-        os::fail(b"writing the line");
+    if let Err(error) = rt.write_all(&line[..n]) {
+        let _ = eprintln!(rt; "writing the line: {error}");
     }
 }
 
 // Reads standard input and prints its line: whether the first of its two texts is compatible with the second, or may replace it.
-pub fn answer_input(compatible: bool) {
+pub fn answer_input(rt: &(impl Input + Print + Eprint), compatible: bool) {
     let mut buf = [0u8; INPUT_MOST];
-    let input = read_input(&mut buf);
-    match input {
-        Input::Whole(n) => {
-            print_line(compatible, &buf[..n]);
-        }
-        Input::Failed => {}
+    let mut source = rt.reader();
+    match read_input(rt, &mut source, &mut buf) {
+        input::Input::Whole(n) => print_line(rt, compatible, &buf[..n]),
+        input::Input::Failed => {}
     }
 }

@@ -16,13 +16,15 @@ mod tables;
 mod texts;
 mod tokens;
 
-fn main() {
-    rows::cases();
-    tables::cases();
-    room::cases();
-    limits::cases();
-    order::cases();
-    tokens::cases();
-    broken::cases();
-    spellings::cases();
+use std::io;
+
+fn main(rt: HostRuntime) -> io::Result<()> {
+    rows::cases(&rt)?;
+    tables::cases(&rt)?;
+    room::cases(&rt)?;
+    limits::cases(&rt)?;
+    order::cases(&rt)?;
+    tokens::cases(&rt)?;
+    broken::cases(&rt)?;
+    spellings::cases(&rt)
 }

@@ -2,6 +2,7 @@
 use reader::read;
 use showing::parts::{between, find};
 use showing::print_made;
+use std::io;
 use table::answers::Answer;
 
 // A refusal's number and place; number 0 stands for a text that is taken.
@@ -11,45 +12,48 @@ pub struct Refusal {
     pub place: usize,
 }
 
-fn print_line(name: &[u8], text: &[u8], places: bool) {
-    io::write_all(1, name);
-    io::write_all(1, b": ");
-    print_made(text, read(text), places);
-    io::write_all(1, b"\n");
+fn print_line(rt: &impl Print, name: &[u8], text: &[u8], places: bool) -> io::Result<()> {
+    rt.write_all(name)?;
+    rt.write_all(b": ")?;
+    print_made(rt, text, read(text), places)?;
+    rt.write_all(b"\n")
 }
 
 // The line of a case.
-pub fn show(name: &[u8], text: &[u8]) {
-    print_line(name, text, false);
+pub fn show(rt: &impl Print, name: &[u8], text: &[u8]) -> io::Result<()> {
+    print_line(rt, name, text, false)
 }
 
 // The line of a case, with the place of each label (`@`).
-pub fn show_places(name: &[u8], text: &[u8]) {
-    print_line(name, text, true);
+pub fn show_places(rt: &impl Print, name: &[u8], text: &[u8]) -> io::Result<()> {
+    print_line(rt, name, text, true)
 }
 
 // A name, a colon, a blank, and a text.
-fn show_one(case: &[u8]) {
+fn show_one(rt: &impl Print, case: &[u8]) -> io::Result<()> {
     let colon = find(case, b':', 0);
     if colon < case.len() {
         show(
+            rt,
             between(case, 0, colon),
             between(case, colon + 2, case.len()),
-        );
+        )?;
     }
+    Ok(())
 }
 
 // Several cases, each with a line feed behind it.
-pub fn show_lines(cases: &[u8]) {
+pub fn show_lines(rt: &impl Print, cases: &[u8]) -> io::Result<()> {
     let mut at = 0;
     while at < cases.len() {
         let end = find(cases, b'\n', at);
         if cases.len() <= end {
-            return;
+            return Ok(());
         }
-        show_one(between(cases, at, end));
+        show_one(rt, between(cases, at, end))?;
         at = end + 1;
     }
+    Ok(())
 }
 
 // The refusal of a text, where nothing is to be seen of its table.

@@ -3,6 +3,7 @@ ghost use Rattle.read_cases.specs.Room.{Whole};
 
 use crate::show::{Refusal, refusal_of, show, show_places};
 use showing::parts::front;
+use std::io;
 
 // More than the longest text here.
 pub const ROOM: usize = 4200;
@@ -67,14 +68,12 @@ impl Text {
         ensures { Whole result.bytes }
     {
         let mut at = self.len;
-        let mut i = 0;
-        while i < part.len() {
+        for i in 0..part.len() {
             if ROOM <= at {
                 return self;
             }
             self.bytes[at] = part[i];
             at += 1;
-            i += 1;
         }
         self.len = at;
         self
@@ -86,10 +85,8 @@ impl Text {
         ensures { Whole result.bytes }
     {
         let mut all = self;
-        let mut i = 0;
-        while i < n {
+        for _ in 0..n {
             all = all.and(part);
-            i += 1;
         }
         all
     }
@@ -108,10 +105,8 @@ impl Text {
         ensures { Whole result.bytes }
     {
         let mut all = self;
-        let mut k = 0;
-        while k < n {
+        for k in 0..n {
             all = all.name(k).and(behind);
-            k += 1;
         }
         all
     }
@@ -122,26 +117,24 @@ impl Text {
         ensures { Whole result.bytes }
     {
         let mut all = self;
-        let mut k = 0;
-        while k < n {
+        for k in 0..n {
             all = all.name(k).and(b"=").name(k + 1).and(b".");
-            k += 1;
         }
         all
     }
 
-    pub fn show(self, name: &[u8])
+    pub fn show(self, rt: &impl Print, name: &[u8]) -> io::Result<()>
         requires { Whole self.bytes }
     {
         let bytes = self.bytes;
-        show(name, front(&bytes, self.len));
+        show(rt, name, front(&bytes, self.len))
     }
 
-    pub fn show_places(self, name: &[u8])
+    pub fn show_places(self, rt: &impl Print, name: &[u8]) -> io::Result<()>
         requires { Whole self.bytes }
     {
         let bytes = self.bytes;
-        show_places(name, front(&bytes, self.len));
+        show_places(rt, name, front(&bytes, self.len))
     }
 
     pub fn refusal(self) -> Refusal
@@ -153,27 +146,41 @@ impl Text {
 }
 
 // One byte, len times.
-pub fn show_all(name: &[u8], b: u8, len: usize) {
-    Text::all(b, len).show(name);
+pub fn show_all(rt: &impl Print, name: &[u8], b: u8, len: usize) -> io::Result<()> {
+    Text::all(b, len).show(rt, name)
 }
 
 // A text with blanks behind it, up to len bytes.
-pub fn show_filled(name: &[u8], text: &[u8], len: usize) {
-    Text::of(text).up_to(len).show(name);
+pub fn show_filled(rt: &impl Print, name: &[u8], text: &[u8], len: usize) -> io::Result<()> {
+    Text::of(text).up_to(len).show(rt, name)
 }
 
 // A text behind n blanks, with the places of its labels.
-pub fn show_behind(name: &[u8], n: usize, text: &[u8]) {
-    Text::all(b' ', n).and(text).show_places(name);
+pub fn show_behind(rt: &impl Print, name: &[u8], n: usize, text: &[u8]) -> io::Result<()> {
+    Text::all(b' ', n).and(text).show_places(rt, name)
 }
 
 // A part n times between two others.
-pub fn show_repeated(name: &[u8], before: &[u8], n: usize, part: &[u8], behind: &[u8]) {
-    Text::of(before).times(n, part).and(behind).show(name);
+pub fn show_repeated(
+    rt: &impl Print,
+    name: &[u8],
+    before: &[u8],
+    n: usize,
+    part: &[u8],
+    behind: &[u8],
+) -> io::Result<()> {
+    Text::of(before).times(n, part).and(behind).show(rt, name)
 }
 
 // One definition: what opens n times, what is inside, what closes n times.
-pub fn show_nested(name: &[u8], n: usize, opening: &[u8], inside: &[u8], closing: &[u8]) {
+pub fn show_nested(
+    rt: &impl Print,
+    name: &[u8],
+    n: usize,
+    opening: &[u8],
+    inside: &[u8],
+    closing: &[u8],
+) -> io::Result<()> {
     let opened = Text::of(b"A = ").times(n, opening).and(inside);
-    opened.times(n, closing).and(b" .").show(name);
+    opened.times(n, closing).and(b" .").show(rt, name)
 }

@@ -1,8 +1,10 @@
 // 2: a "token that no text of the notation could have there". One token wrong, left out or too many, at each place of the notation.
 use crate::show::show_lines;
+use std::io;
 
-fn definitions() {
+fn definitions(rt: &impl Print) -> io::Result<()> {
     show_lines(
+        rt,
         b"no name: = end .\n\
         no =: A end .\n\
         = twice: A == end .\n\
@@ -13,11 +15,12 @@ fn definitions() {
         second definition begun: A = end . B\n\
         end twice: A = end end .\n\
         two names for a type: A = B C .\n",
-    );
+    )
 }
 
-fn types() {
+fn types(rt: &impl Print) -> io::Result<()> {
     show_lines(
+        rt,
         b"sort goes on: A = ?(); void .\n\
         sort behind a label: A = +{a: float} .\n\
         closed and not opened: A = end) .\n\
@@ -27,11 +30,12 @@ fn types() {
         end goes on: A = end; end .\n\
         sign alone: A = ! .\n\
         sign twice: A = ??(); end .\n",
-    );
+    )
 }
 
-fn brackets() {
+fn brackets(rt: &impl Print) -> io::Result<()> {
     show_lines(
+        rt,
         b"[ behind ?: A = ?[string]; end .\n\
         { behind ?: A = ?{string}; end .\n\
         ( behind !: A = !(string); end .\n\
@@ -43,11 +47,12 @@ fn brackets() {
         ) closes [: A = ![void); end .\n\
         ) closes {: A = +{a: end) .\n\
         ] closes {: A = &{a: end] .\n",
-    );
+    )
 }
 
-fn items() {
+fn items(rt: &impl Print) -> io::Result<()> {
     show_lines(
+        rt,
         b"no list: A = ? end .\n\
         no semicolon: A = ?() end .\n\
         no continuation: A = ?(); .\n\
@@ -60,11 +65,12 @@ fn items() {
         semicolon for a comma: A = ?(void; void); end .\n\
         label in a list of items: A = ?(a: end); end .\n\
         list that ends with the text: A = ?(void\n",
-    );
+    )
 }
 
-fn labels() {
+fn labels(rt: &impl Print) -> io::Result<()> {
     show_lines(
+        rt,
         b"no label: A = &{} .\n\
         no colon: A = +{a end} .\n\
         no colon and no type: A = +{a} .\n\
@@ -78,13 +84,13 @@ fn labels() {
         comma for a bar: A = +{a: end, b: end} .\n\
         choice goes on: A = +{a: end}; end .\n\
         choice not closed: A = +{a: end .\n",
-    );
+    )
 }
 
-pub fn cases() {
-    definitions();
-    types();
-    brackets();
-    items();
-    labels();
+pub fn cases(rt: &impl Print) -> io::Result<()> {
+    definitions(rt)?;
+    types(rt)?;
+    brackets(rt)?;
+    items(rt)?;
+    labels(rt)
 }

@@ -2,91 +2,82 @@
 // (and any other that is not 0, with its mark), the steps, whether scratch is 0 where it may be used, and whether all else stayed.
 use crate::printing;
 use replace::may_replace;
+use std::io;
 use table::Table;
 use table::answers::Verdict;
 
 fn fill_bytes(s: &mut [u8], v: u8) {
-    let mut i = 0;
-    while i < s.len() {
+    for i in 0..s.len() {
         s[i] = v;
-        i += 1;
     }
 }
 
 fn fill_numbers(s: &mut [u16], v: u16) {
-    let mut i = 0;
-    while i < s.len() {
+    for i in 0..s.len() {
         s[i] = v;
-        i += 1;
     }
 }
 
 // Whether an area holds v from `from` on.
 fn bytes_are(s: &[u8], from: usize, v: u8) -> bool {
-    let mut i = from;
-    while i < s.len() {
+    for i in from..s.len() {
         if s[i] != v {
             return false;
         }
-        i += 1;
     }
     true
 }
 
 // And below `to`.
 fn numbers_are(s: &[u16], from: usize, to: usize, v: u16) -> bool {
-    let mut i = from;
-    while i < to {
+    for i in from..to {
         if i < s.len() {
             if s[i] != v {
                 return false;
             }
         }
-        i += 1;
     }
     true
 }
 
-fn print_marks(marks: &[u8], size: usize) {
-    io::write_all(1, b", marks");
-    let mut i = 0;
-    while i < marks.len() {
+fn print_marks(rt: &impl Print, marks: &[u8], size: usize) -> io::Result<()> {
+    rt.write_all(b", marks")?;
+    for i in 0..marks.len() {
         if i < size {
             if marks[i] != 0 {
-                printing::number(i);
+                printing::number(rt, i)?;
             }
             if 1 < marks[i] {
-                printing::mark(marks[i]);
+                printing::mark(rt, marks[i])?;
             }
         }
-        i += 1;
     }
+    Ok(())
 }
 
-fn print_path(path: &[u16], steps: usize) {
-    io::write_all(1, b", path");
-    let mut i = 0;
-    while i < path.len() {
+fn print_path(rt: &impl Print, path: &[u16], steps: usize) -> io::Result<()> {
+    rt.write_all(b", path")?;
+    for i in 0..path.len() {
         if i < steps {
-            printing::step(path[i]);
+            printing::step(rt, path[i])?;
         }
-        i += 1;
     }
+    Ok(())
 }
 
-fn print_rest(kept: bool) {
+fn print_rest(rt: &impl Print, kept: bool) -> io::Result<()> {
     if kept {
-        io::write_all(1, b", the rest kept\n");
+        rt.write_all(b", the rest kept\n")
     } else {
-        io::write_all(1, b", the rest changed\n");
+        rt.write_all(b", the rest changed\n")
     }
 }
 
-fn print_scratch(cleared: bool) {
+fn print_scratch(rt: &impl Print, cleared: bool) -> io::Result<()> {
     if cleared {
-        io::write_all(1, b", scratch 0");
+        rt.write_all(b", scratch 0")
     } else {
-        io::write_all(1, b", scratch not 0");
+        rt.write_all(b", scratch not 0")
     }
 }
 
@@ -110,13 +101,14 @@ fn rest_kept(
     numbers_are(scratch, twice, scratch.len(), w)
 }
 
-pub fn title(name: &[u8], which: &[u8]) {
-    io::write_all(1, name);
-    io::write_all(1, which);
-    io::write_all(1, b": ");
+pub fn title(rt: &impl Print, name: &[u8], which: &[u8]) -> io::Result<()> {
+    rt.write_all(name)?;
+    rt.write_all(which)?;
+    rt.write_all(b": ")
 }
 
 fn report(
+    rt: &impl Print,
     answer: Verdict,
     size: usize,
     twice: usize,
@@ -125,21 +117,25 @@ fn report(
     scratch: &[u16],
     v: u8,
     w: u16,
-) {
-    printing::verdict(answer);
+) -> io::Result<()> {
+    printing::verdict(rt, answer)?;
     if printing::is_refusal(answer) {
-        print_rest(rest_kept(marks, path, scratch, 0, 0, 0, v, w));
-        return;
+        print_rest(rt, rest_kept(marks, path, scratch, 0, 0, 0, v, w))?;
+        return Ok(());
     }
     let steps = printing::steps(answer);
-    print_marks(marks, size);
-    print_path(path, steps);
-    print_scratch(numbers_are(scratch, 0, twice, 0));
-    print_rest(rest_kept(marks, path, scratch, size, steps, twice, v, w));
+    print_marks(rt, marks, size)?;
+    print_path(rt, path, steps)?;
+    print_scratch(rt, numbers_are(scratch, 0, twice, 0))?;
+    print_rest(
+        rt,
+        rest_kept(marks, path, scratch, size, steps, twice, v, w),
+    )
 }
 
 // The areas are full of v and w before; `size` of the marks may be used, and `twice` of scratch.
 pub fn show(
+    rt: &impl Print,
     new: Table,
     new_names: &[u8],
     old: Table,
@@ -151,10 +147,10 @@ pub fn show(
     scratch: &mut [u16],
     v: u8,
     w: u16,
-) {
+) -> io::Result<()> {
     fill_bytes(marks, v);
     fill_numbers(path, w);
     fill_numbers(scratch, w);
     let answer = may_replace(new, new_names, old, old_names, marks, path, scratch);
-    report(answer, size, twice, marks, path, scratch, v, w);
+    report(rt, answer, size, twice, marks, path, scratch, v, w)
 }

@@ -11,10 +11,12 @@ mod printing;
 mod tables;
 mod texts;
 
-fn main() {
-    texts::cases();
-    lengths::cases();
-    tables::cases();
-    lost::cases();
-    large::cases();
+use std::io;
+
+fn main(rt: HostRuntime) -> io::Result<()> {
+    texts::cases(&rt)?;
+    lengths::cases(&rt)?;
+    tables::cases(&rt)?;
+    lost::cases(&rt)?;
+    large::cases(&rt)
 }

@@ -1,42 +1,43 @@
 // How an answer is printed: as in the printed verdict, and of a refusal number and place.
+use std::io;
 use table::answers::{Found, Verdict};
 
-pub fn number(n: usize) {
-    io::write_all(1, b" ");
-    io::print_decimal(1, n as u64);
+pub fn number(rt: &impl Print, n: usize) -> io::Result<()> {
+    rt.write_all(b" ")?;
+    rt.print(n)
 }
 
-pub fn mark(v: u8) {
-    io::write_all(1, b"=");
-    io::print_decimal(1, v as u64);
+pub fn mark(rt: &impl Print, v: u8) -> io::Result<()> {
+    rt.write_all(b"=")?;
+    rt.print(v)
 }
 
-pub fn step(v: u16) {
-    number(v as usize);
+pub fn step(rt: &impl Print, v: u16) -> io::Result<()> {
+    number(rt, v as usize)
 }
 
-fn found(f: Found) {
-    number(f.reason);
-    number(f.detail);
-    number(f.new);
-    number(f.old);
-    number(f.turn);
+fn found(rt: &impl Print, f: Found) -> io::Result<()> {
+    number(rt, f.reason)?;
+    number(rt, f.detail)?;
+    number(rt, f.new)?;
+    number(rt, f.old)?;
+    number(rt, f.turn)
 }
 
-pub fn verdict(v: Verdict) {
+pub fn verdict(rt: &impl Print, v: Verdict) -> io::Result<()> {
     match v {
         Verdict::Yes(count) => {
-            io::write_all(1, b"yes");
-            number(count);
+            rt.write_all(b"yes")?;
+            number(rt, count)
         }
         Verdict::No(f) => {
-            io::write_all(1, b"no");
-            found(f);
+            rt.write_all(b"no")?;
+            found(rt, f)
         }
         Verdict::Refused { number: n, place } => {
-            io::write_all(1, b"refused");
-            number(n);
-            number(place);
+            rt.write_all(b"refused")?;
+            number(rt, n)?;
+            number(rt, place)
         }
     }
 }

@@ -6,177 +6,156 @@ pub mod parts;
 pub mod room;
 pub mod rubbish;
 
+use std::io;
 use table::answers::{Answer, Made};
 use table::{ITEMS_MOST, Item, Kind, LABELS_MOST, Label, NODES_MOST, Node, Sort, Table};
 
-fn print_link(to: u8) {
-    io::write_all(1, b">");
-    io::print_decimal(1, to as u64);
+fn print_link(rt: &impl Print, to: u8) -> io::Result<()> {
+    rt.write_all(b">")?;
+    rt.print(to)
 }
 
-fn print_sort(sort: Sort) {
+fn print_sort(rt: &impl Print, sort: Sort) -> io::Result<()> {
     match sort {
-        Sort::String => {
-            io::write_all(1, b" string");
-        }
-        Sort::Float => {
-            io::write_all(1, b" float");
-        }
-        Sort::Boolean => {
-            io::write_all(1, b" boolean");
-        }
-        Sort::Void => {
-            io::write_all(1, b" void");
-        }
+        Sort::String => rt.write_all(b" string"),
+        Sort::Float => rt.write_all(b" float"),
+        Sort::Boolean => rt.write_all(b" boolean"),
+        Sort::Void => rt.write_all(b" void"),
     }
 }
 
-fn print_item(item: Item) {
+fn print_item(rt: &impl Print, item: Item) -> io::Result<()> {
     match item {
-        Item::OfSort(sort) => {
-            print_sort(sort);
-        }
+        Item::OfSort(sort) => print_sort(rt, sort),
         Item::Session(to) => {
-            io::write_all(1, b" ");
-            print_link(to);
+            rt.write_all(b" ")?;
+            print_link(rt, to)
         }
     }
 }
 
 // A message: its sign, its items, its continuation.
-fn print_message(sign: &[u8], x: Node) {
-    io::write_all(1, sign);
+fn print_message(rt: &impl Print, sign: &[u8], x: Node) -> io::Result<()> {
+    rt.write_all(sign)?;
     let n = x.item_count as usize;
-    let mut i = 0;
-    while i < n {
+    for i in 0..n {
         if i < ITEMS_MOST {
             let slot = x.items[i];
-            let item = slot.item;
-            print_item(item);
+            print_item(rt, slot.item)?;
         }
-        i += 1;
     }
     if ITEMS_MOST < n {
-        io::write_all(1, b" and more");
+        rt.write_all(b" and more")?;
     }
-    print_link(x.next);
+    print_link(rt, x.next)
 }
 
 // A label's bytes, which are a part of the name bytes.
-fn print_part(names: &[u8], at: usize, len: usize) {
+fn print_part(rt: &impl Print, names: &[u8], at: usize, len: usize) -> io::Result<()> {
     if names.len() < at {
-        io::write_all(1, b"outside");
-        return;
+        return rt.write_all(b"outside");
     }
     if names.len() - at < len {
-        io::write_all(1, b"outside");
-        return;
+        return rt.write_all(b"outside");
     }
-    io::write_all(1, &names[at..at + len]);
+    rt.write_all(&names[at..at + len])
 }
 
-fn print_label(names: &[u8], label: Label, places: bool) {
-    io::write_all(1, b" ");
-    print_part(names, label.at as usize, label.len as usize);
+fn print_label(rt: &impl Print, names: &[u8], label: Label, places: bool) -> io::Result<()> {
+    rt.write_all(b" ")?;
+    print_part(rt, names, label.at as usize, label.len as usize)?;
     if places {
-        io::write_all(1, b"@");
-        io::print_decimal(1, label.at as u64);
+        rt.write_all(b"@")?;
+        rt.print(label.at)?;
     }
-    print_link(label.to);
+    print_link(rt, label.to)
 }
 
 // A choice: its sign, its labels.
-fn print_choice(sign: &[u8], names: &[u8], x: Node, places: bool) {
-    io::write_all(1, sign);
+fn print_choice(
+    rt: &impl Print,
+    sign: &[u8],
+    names: &[u8],
+    x: Node,
+    places: bool,
+) -> io::Result<()> {
+    rt.write_all(sign)?;
     let n = x.label_count as usize;
-    let mut i = 0;
-    while i < n {
+    for i in 0..n {
         if i < LABELS_MOST {
             let label = x.labels[i];
-            print_label(names, label, places);
+            print_label(rt, names, label, places)?;
         }
-        i += 1;
     }
     if LABELS_MOST < n {
-        io::write_all(1, b" and more");
+        rt.write_all(b" and more")?;
     }
+    Ok(())
 }
 
-pub fn print_node(names: &[u8], x: Node, places: bool) {
+pub fn print_node(rt: &impl Print, names: &[u8], x: Node, places: bool) -> io::Result<()> {
     let kind = x.kind;
     match kind {
-        Kind::End => {
-            io::write_all(1, b"end");
-        }
-        Kind::Receive => {
-            print_message(b"?", x);
-        }
-        Kind::Send => {
-            print_message(b"!", x);
-        }
-        Kind::Branch => {
-            print_choice(b"&", names, x, places);
-        }
-        Kind::Choose => {
-            print_choice(b"+", names, x, places);
-        }
+        Kind::End => rt.write_all(b"end"),
+        Kind::Receive => print_message(rt, b"?", x),
+        Kind::Send => print_message(rt, b"!", x),
+        Kind::Branch => print_choice(rt, b"&", names, x, places),
+        Kind::Choose => print_choice(rt, b"+", names, x, places),
     }
 }
 
 // What stands before node i.
-fn print_between(i: usize) {
+fn print_between(rt: &impl Print, i: usize) -> io::Result<()> {
     if i == 0 {
-        io::write_all(1, b", ");
+        rt.write_all(b", ")
     } else {
-        io::write_all(1, b"; ");
+        rt.write_all(b"; ")
     }
 }
 
-fn print_table(names: &[u8], t: Table, places: bool) {
-    io::write_all(1, b"ok, start ");
-    io::print_decimal(1, t.start as u64);
+fn print_table(rt: &impl Print, names: &[u8], t: Table, places: bool) -> io::Result<()> {
+    rt.write_all(b"ok, start ")?;
+    rt.print(t.start)?;
     let n = t.count as usize;
-    let mut i = 0;
-    while i < n {
+    for i in 0..n {
         if i < NODES_MOST {
-            print_between(i);
+            print_between(rt, i)?;
             let x = t.nodes[i];
-            print_node(names, x, places);
+            print_node(rt, names, x, places)?;
         }
-        i += 1;
     }
     if NODES_MOST < n {
-        io::write_all(1, b" and more");
+        rt.write_all(b" and more")?;
     }
+    Ok(())
 }
 
-pub fn print_refusal(number: usize, place: usize) {
-    io::print_decimal(1, number as u64);
-    io::write_all(1, b" at ");
-    io::print_decimal(1, place as u64);
+pub fn print_refusal(rt: &impl Print, number: usize, place: usize) -> io::Result<()> {
+    rt.print(number)?;
+    rt.write_all(b" at ")?;
+    rt.print(place)
 }
 
 // "Beside a refusal the table has no nodes and start 0."
-fn print_beside(t: Table) {
+fn print_beside(rt: &impl Print, t: Table) -> io::Result<()> {
     if t.count != 0 {
-        io::write_all(1, b", with nodes");
+        rt.write_all(b", with nodes")?;
     }
     if t.start != 0 {
-        io::write_all(1, b", with a start");
+        rt.write_all(b", with a start")?;
     }
+    Ok(())
 }
 
 // What was made of a text or a table; where `places` is true, each label with its place (`@`).
-pub fn print_made(names: &[u8], made: Made, places: bool) {
+pub fn print_made(rt: &impl Print, names: &[u8], made: Made, places: bool) -> io::Result<()> {
     let answer = made.answer;
     let t = made.table;
     match answer {
-        Answer::Accepted => {
-            print_table(names, t, places);
-        }
+        Answer::Accepted => print_table(rt, names, t, places),
         Answer::Refused { number, place } => {
-            print_refusal(number, place);
-            print_beside(t);
+            print_refusal(rt, number, place)?;
+            print_beside(rt, t)
         }
     }
 }

@@ -5,14 +5,12 @@ ghost use Rattle.std.specs.Prelude.{◌≤◌};
 pub fn find(s: &[u8], b: u8, from: usize) -> usize
     ensures { from ≤ result }
 {
-    let mut i = from;
-    while i < s.len() {
+    for i in from..s.len() {
         if s[i] == b {
             return i;
         }
-        i += 1;
     }
-    i
+    from.max(s.len())
 }
 
 // The bytes from a to e; none where there are no such.

@@ -1,4 +1,5 @@
 // "Room that a node's kind or the counts leave unused": "whatever makes a table fills it with 0 (`end`, `string`)".
+use std::io;
 use table::{ITEMS_MOST, Item, Kind, LABELS_MOST, Label, NODES_MOST, Node, Sort, Table};
 
 fn sort_blank(sort: Sort) -> bool {
@@ -19,14 +20,11 @@ fn item_blank(item: Item) -> bool {
 
 // Whether the items from `from` on are blank.
 fn items_blank(x: Node, from: usize) -> bool {
-    let mut i = from;
-    while i < ITEMS_MOST {
+    for i in from..ITEMS_MOST {
         let slot = x.items[i];
-        let item = slot.item;
-        if !item_blank(item) {
+        if !item_blank(slot.item) {
             return false;
         }
-        i += 1;
     }
     true
 }
@@ -43,13 +41,11 @@ fn label_blank(label: Label) -> bool {
 
 // Whether the labels from `from` on are blank.
 fn labels_blank(x: Node, from: usize) -> bool {
-    let mut i = from;
-    while i < LABELS_MOST {
+    for i in from..LABELS_MOST {
         let label = x.labels[i];
         if !label_blank(label) {
             return false;
         }
-        i += 1;
     }
     true
 }
@@ -108,23 +104,21 @@ fn node_blank(x: Node, used: bool) -> bool {
 
 fn table_blank(t: Table) -> bool {
     let n = t.count as usize;
-    let mut i = 0;
-    while i < NODES_MOST {
+    for i in 0..NODES_MOST {
         let x = t.nodes[i];
         if !node_blank(x, i < n) {
             return false;
         }
-        i += 1;
     }
     true
 }
 
 // Whether all of it is blank, behind the name of what was made.
-pub fn print_room(name: &[u8], t: Table) {
-    io::write_all(1, name);
+pub fn print_room(rt: &impl Print, name: &[u8], t: Table) -> io::Result<()> {
+    rt.write_all(name)?;
     if table_blank(t) {
-        io::write_all(1, b", unused room: blank\n");
+        rt.write_all(b", unused room: blank\n")
     } else {
-        io::write_all(1, b", unused room: not blank\n");
+        rt.write_all(b", unused room: not blank\n")
     }
 }

@@ -1,7 +1,6 @@
 // Prints the line for what stands on standard input: may the first of its two texts replace the second?
 #![tactic(auto)]
 
-
-fn main() {
-    printer::answer_input(false);
+fn main(rt: HostRuntime) {
+    printer::answer_input(&rt, false);
 }
