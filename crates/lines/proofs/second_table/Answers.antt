@@ -1,7 +1,5 @@
 -- `lines::second_table` meets its contract: the text's own table, or its dual, which is given for every text's table.
 -- Assumes nothing.
-use borrow.Author.Rules.{rules}
-use borrow.Author.Tests.{not-true, not-false}
 use Rattle.lines.proofs.Asking.{against_itself, against-dual}
 use Rattle.lines.proofs.second_table.Goals as goal
 
