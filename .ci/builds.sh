@@ -11,25 +11,26 @@ scripted() { # FILE SCRIPT
 }
 cp -R bin "$tree/bin"
 mkdir -p "$tree/crates/below/src" "$tree/crates/verdict/src" "$tree/crates/compatible/src"
-printf '# crates\nverdict: below\nbelow:\ncompatible: below\nbeside: verdict\n' >"$tree/crates.txt"
-echo source >"$tree/crates/below/src/lib.rt"
+printf '# crates\nverdict: below io\nbelow:\ncompatible: below\nbeside staticlib: below\n' >"$tree/crates.txt"
+echo source >"$tree/crates/below/src/lib"
 echo 'kit 1' >"$stand/identity"
-# This rt does what the file `check` says, and counts how often it is asked to.
+# This rt does what the file `check` says, at the top, for the crate that it was begun in, and counts how often it is asked to.
 scripted "$stand/rt" "case \$1 in
 version) exec cat '$stand/identity' ;;
-check) echo \"\$*\" >>'$stand/calls'; echo rt at work; . '$stand/check' ;;
+run) echo \"\$*\" >>'$stand/calls'; echo rt at work >&2; crate=\${PWD##*/}; cd ../..; . '$stand/check' ;;
 *) exit 2 ;;
 esac"
 checks() { printf '%s\n' "$1" >"$stand/check"; }               # SCRIPT
 programs() { scripted "$stand/program" "cat >/dev/null; $1"; } # SCRIPT: what the program does that is built
-fresh() { rm -rf target && : >"$stand/calls"; }
+fresh() { rm -rf target crates/*/out && : >"$stand/calls"; }
 built() { # TIMES WHEN: so often since `fresh`
     local times
     times=$(wc -l <"$stand/calls")
     [ "$times" = "$1" ] || differs "rt built $times times and not $1 times $2"
 }
-# As the real rt: where its stamp is there, it builds nothing.
-builds="mkdir -p target/bin target/stamp; [ -e target/stamp/\$2 ] || { cp '$stand/program' target/bin/\$2; : >target/stamp/\$2; }"
+# As the real rt: where its stamp is that of the program, it builds nothing.
+builds="made=crates/\$crate/out/\$crate; mkdir -p crates/\$crate/out crates/below/out/rlib; : >crates/below/out/rlib/stamp
+[ -s \$made ] && sha256sum <\$made | cmp -s - \$made.stamp || { cp '$stand/program' \$made; chmod +x \$made; sha256sum <\$made >\$made.stamp; }"
 export PATH=$stand:$PATH
 cd "$tree" || exit
 
@@ -92,7 +93,7 @@ done
 name=verdict
 none_kept() { # WHEN
     local file
-    for file in target/bin/verdict target/stamp/verdict; do
+    for file in target/bin/verdict target/built/verdict; do
         [ ! -e "$file" ] || differs "$file was kept $1"
     done
 }
@@ -121,28 +122,32 @@ answers 'yes 7' 6 'where the program was built by hand'
 rm target/built/verdict
 scripted target/bin/verdict 'cat >/dev/null; echo yes 1'
 answers 'yes 7' 7 'where a program that was built by hand is another one'
+rm crates/verdict/out/verdict
+answers 'yes 7' 7 "where rt's own has gone"
+scripted crates/verdict/out/verdict 'cat >/dev/null; echo yes 1'
+answers 'yes 7' 7 "where rt's own is another one"
 scripted target/bin/verdict 'cat >/dev/null; echo yes 1'
-echo more >>crates/below/src/lib.rt
+echo more >>crates/below/src/lib
 answers 'yes 7' 8 'where the program is another one and a source has changed that it does not need'
 programs 'echo yes 8'
-checks "rm -f target/stamp/\$2; $builds" # as rt does where a source has changed
-echo changed >crates/below/src/lib.rt
-touch -d '2001-01-01' crates/below/src/lib.rt
+checks "rm -f crates/\$crate/out/\$crate.stamp; $builds" # as rt does where a source has changed
+echo changed >crates/below/src/lib
+touch -d '2001-01-01' crates/below/src/lib
 answers 'yes 8' 9 'where a source has changed'
 answers 'yes 8' 9 'where the changed source is built'
 echo '# a comment' >>crates.txt
 answers 'yes 8' 10 'where the list of crates has changed'
-: >crates/below/src/more.rt
+: >crates/below/src/more
 answers 'yes 8' 11 'where a source has come'
-rm crates/below/src/more.rt
+rm crates/below/src/more
 answers 'yes 8' 12 'where a source has gone'
 echo 'kit 2' >"$stand/identity"
 answers 'yes 8' 13 'where the toolchain is another one'
 checks 'exit 1'
-echo broken >crates/below/src/lib.rt
+echo broken >crates/below/src/lib
 for _ in 1 2; do
     gives 2 '' bin/verdict "$R" "$R"
-    said '^verdict: rt check verdict failed, .*/target/built/verdict.log has what it printed$'
+    said '^verdict: rt run verdict failed, .*/target/built/verdict.log has what it printed$'
     none_kept 'for sources that are not proved'
 done
 checks "$builds"
@@ -153,11 +158,11 @@ answers 'yes 8' 16 'where the sources are proved again'
 : >"$stand/identity"
 gives 2 '' bin/verdict "$R" "$R"
 echo 'kit 2' >"$stand/identity"
-mv crates/below/src/lib.rt elsewhere
-ln -s ../../../elsewhere crates/below/src/lib.rt
+mv crates/below/src/lib elsewhere
+ln -s ../../../elsewhere crates/below/src/lib
 gives 2 '' bin/verdict "$R" "$R"
 said 'some are links'
-mv elsewhere crates/below/src/lib.rt
+mv elsewhere crates/below/src/lib
 
 # What changes while rt is at work: a source, also one that is put back, and the toolchain
 while IFS= read -r change; do
@@ -166,9 +171,11 @@ while IFS= read -r change; do
     gives 2 '' bin/verdict "$R" "$R"
     said '^verdict: the sources, the toolchain or target/ have changed while target/bin/verdict was built: ask again$'
     none_kept 'for what changed meanwhile'
+    [ ! -e crates/verdict/out/verdict ] || differs "rt's own program was kept for what changed meanwhile"
+    [ ! -e crates/below/out/rlib/stamp ] || differs "rt's stamp was kept for what changed meanwhile"
 done <<END
-echo meanwhile >>crates/below/src/lib.rt
-mv crates/below/src/lib.rt kept; echo 1 >crates/below/src/lib.rt; sleep 0.1; mv kept crates/below/src/lib.rt
+echo meanwhile >>crates/below/src/lib
+mv crates/below/src/lib kept; echo 1 >crates/below/src/lib; sleep 0.1; mv kept crates/below/src/lib
 echo kit 3 >'$stand/identity'
 rm -rf target
 END
@@ -181,7 +188,7 @@ gives 2 '' bin/verdict "$R" "$R"
 built 2 'for a program that changes while it is asked'
 programs 'echo yes 8'
 
-# What rt has found wanting is not asked, and neither it nor its stamp is kept
+# What rt has found wanting is not asked and not kept: also a program that does not print, for the crate's stdin, what its stdout has
 for check in "$builds; exit 1" "$builds; kill -9 \$\$"; do
     fresh
     checks "$check"
@@ -191,7 +198,21 @@ done
 fresh
 checks ':'
 gives 2 '' bin/verdict "$R" "$R"
-said '^verdict: rt check verdict has not built target/bin/verdict: '
+said '^verdict: rt run verdict has not built crates/verdict/out/verdict, '
+fresh
+echo in >crates/verdict/stdin
+echo out >crates/verdict/stdout
+checks "$builds; cat"
+gives 2 '' bin/verdict "$R" "$R"
+said '^verdict: the program that rt run verdict has built does not print what crates/verdict/stdout has, '
+none_kept 'that prints something else'
+checks "$builds; [ \"\$(cat)\" = in ] && echo out"
+answers 'yes 8' 2 'where the program prints what it must'
+rm crates/verdict/stdin crates/verdict/stdout
+
+# What the environment says of compilers and of C is not asked
+checks "[ -z \"\${RT_BACKEND-}\${RT_ALLOW_C-}\" ] && $builds"
+RT_BACKEND=both RT_ALLOW_C=1 answers 'yes 8' 3 'where the environment names another compiler'
 
 # waits until a pattern is found in one of these files, ten seconds at the most
 awaits="awaits() { times=0; until grep -qs \"\$@\" || [ \$times = 100 ]; do sleep 0.1; times=\$((times + 1)); done; }"
@@ -221,7 +242,7 @@ checks "$slowly"
 at_once 1 bin/verdict bin/verdict
 at_once 2 bin/verdict bin/compatible
 # where what the first has built does not answer, one of them builds it again
-checks "[ -e first ] || { : >first; mkdir -p target/bin target/stamp; echo >target/bin/\$2; chmod +x target/bin/\$2; : >target/stamp/\$2; }; $slowly"
+checks "[ -e first ] || { : >first; cp '$stand/program' kept; echo >'$stand/program'; $builds; mv kept '$stand/program'; }; $slowly"
 at_once 2 bin/verdict bin/verdict
 rm first
 # where one of them is killed, the other builds
@@ -239,10 +260,11 @@ wait "$first" || status=$?
 answers 'yes 8' 2 'after a build that was killed'
 rm died
 
-# A build whose caller is ended ends with it, and leaves nothing behind
-for signal in TERM HUP; do
+# A build whose caller is ended ends with it, and leaves nothing behind: also what left its process group and does not heed a signal, and what rt was copying
+while read -r signal alone heeds; do
     fresh
-    checks 'mktemp >/dev/null; sh -c "trap \"\" INT; echo \$\$ >working; sleep 60" & wait'
+    checks "mktemp >/dev/null; mkdir -p crates/below/out/rt-work-\$\$-copy/work
+$alone sh -c 'trap \"\" $heeds; echo \$\$ >working; while :; do sleep 0.1; done' & wait"
     bin/verdict "$R" "$R" >"$room/first" 2>"$room/first.err" &
     first=$!
     for _ in $(seq 100); do [ -s working ] || sleep 0.1; done
@@ -250,34 +272,42 @@ for signal in TERM HUP; do
     status=0
     wait "$first" 2>/dev/null || status=$?
     [ "$status" -gt 1 ] || differs "status $status of a build that the signal $signal ended"
-    ! kill -0 "$(cat working)" 2>/dev/null || differs "a build is at work after the signal $signal"
+    ! grep -qs . "/proc/$(cat working)/environ" || differs "a build is at work after the signal $signal"
     [ -z "$(ls -A "$TMPDIR")" ] || differs "a build that the signal $signal ended has left $(ls -A "$TMPDIR") behind"
+    [ -z "$(ls -A crates/below/out)" ] || differs "a build that the signal $signal ended has left $(ls -A crates/below/out) behind"
     count=$((count + 1))
     rm working
-done
+done <<'END'
+TERM exec INT
+HUP setsid INT HUP TERM
+END
 
-# Where a build is: each crate with its number and the time, in a line, and on one line of a terminal
+# Where a build is: each crate with its number and the time, in a line, and on one line of a terminal; and what rt waits for
 proves="$awaits
-mkdir -p target/log
-for crate in below \$2; do
-    echo note >target/log/\$crate.out
-    awaits \": \$crate (\" '$room/err' '$room/terminal'
-    echo \"rt: \$crate proved (1 s)\" >>target/log/\$crate.out
+for it in below \$crate; do
+    echo note >&2
+    echo \"rt: chose --jobs 2 for \$it\" >&2
+    awaits \": \$it (\" '$room/err' '$room/terminal'
+    echo \"fn \$it::f: proved\" >&2
 done
 $builds"
 fresh
 checks "$proves"
 rm -f "$room/err" "$room/terminal"
 answers 'yes 8' 1 'while it says where it is'
-for pattern in '^verdict: target/bin/verdict is not built yet: building it\. The first build proves 2 crates, which took between .* s on two cores\.$' \
+for pattern in '^verdict: target/bin/verdict is not built yet: building it\. The first build proves 2 crates, which took between .* cores\.$' \
     '^verdict: proving 1 of 2: below (.* s)$' '^verdict: proving 2 of 2: verdict (.* s)$'; do
     said "$pattern"
 done
 [ "$(grep -vc '^verdict: built (.* s)$' "$room/err")" = 3 ] || differs "more is said of a build than where it is: $(cat "$room/err")"
 rm target/bin/verdict
-checks "mkdir -p target/log; echo 'rt: below proved (unchanged since it was last proved)' >target/log/below.out; $builds"
+checks "echo 'rt: nothing has changed since the last proved build' >&2; $builds"
 answers 'yes 8' 2 'where there is nothing to prove'
 [ ! -s "$room/err" ] || differs "a build with nothing to prove says '$(cat "$room/err")'"
+rm target/bin/verdict "$room/err"
+checks "$awaits; echo 'rt: waiting for another rt to finish in below' >&2; awaits 'verdict: waiting for another rt' '$room/err'; $builds"
+answers 'yes 8' 3 'where another rt is at work'
+said '^verdict: waiting for another rt to finish in below$'
 rm target/bin/verdict "$room/err"
 checks "$proves"
 script -qec "bin/verdict '$R' '$R'" /dev/null >"$room/terminal" </dev/null || differs 'bin/verdict gave no yes on a terminal'
@@ -306,7 +336,15 @@ fresh
 gives 2 '' bin/verdict "$R" "$R"
 said '^verdict: nothing can be written in .* (.*): get leave to write there, or clone the repository to where you have it and ask there$'
 rm target
-checks 'echo "cp: error writing target/bin/verdict: No space left on device"; exit 1'
+: >crates/below/out
+gives 2 '' bin/verdict "$R" "$R"
+said '^verdict: nothing can be written in .* (.*): get leave to write there, or clone the repository to where you have it and ask there$'
+rm crates/below/out
+scripted "$stand/uname" 'echo aarch64'
+gives 2 '' bin/verdict "$R" "$R"
+said '^verdict: target/bin/verdict is not built yet, and rt, which builds it, runs on x86-64 alone, and not on aarch64$'
+rm "$stand/uname"
+checks 'echo "cp: error writing crates/verdict/out/verdict: No space left on device" >&2; exit 1'
 gives 2 '' bin/verdict "$R" "$R"
 said '^verdict: the disk of .* is full: make room, .*, and ask again$'
 [ "$(wc -l <"$room/err")" = 1 ] || differs "more than a sentence is said of a full disk: $(cat "$room/err")"

@@ -18,8 +18,6 @@ fail() { # MESSAGE
     exit 2
 }
 
-# shellcheck source=bin/machine.sh
-source "$root/bin/machine.sh" || exit
 # shellcheck source=bin/build.sh
 source "$root/bin/build.sh" || exit
 # shellcheck source=bin/usage.sh
@@ -46,7 +44,7 @@ decoded() { printf '%s' "${1%.}" | base64 -d; } # TAKEN
 ask_program() { # NEW OLD, taken
     local said number='(0|[1-9][[:digit:]]*)'
     local forms="^(yes $number|no( $number){5,}|refused( $number){3})$"
-    said=$({ decoded "$1" && printf '\0' && decoded "$2"; } | run "$program" | LC_ALL=C tr '\0' '?' && printf .) && as_built || return
+    said=$({ decoded "$1" && printf '\0' && decoded "$2"; } | "$program" | LC_ALL=C tr '\0' '?' && printf .) && as_built || return
     line=${said%$'\n.'}
     [[ $said == "$line"$'\n.' && $line =~ $forms ]]
 }
@@ -57,7 +55,7 @@ ask_again() { # NEW OLD, taken
     need_rt "$why"
     take_lock
     if ! { current && ask_program "$1" "$2" 2>/dev/null; }; then
-        rm -f -- "$program" "$stamp" "$record"
+        rm -f -- "$program" "$made" "$record"
         prove "$why"
         ask_program "$1" "$2" || fail "$root/$program was built again and still does not print one line of a known form"
     fi
@@ -72,13 +70,13 @@ version() {
     top=$(git rev-parse --show-toplevel 2>&1) || fail "git cannot tell which commit $root is: ${top%%$'\n'*}"
     [[ $top == "$root" ]] || fail "$root is no git checkout of its own, so its commit is not known"
     commit=$(git rev-parse HEAD 2>/dev/null) &&
-        changed=$(git --no-optional-locks status --porcelain --untracked-files=all --ignored -- bin crates crates.txt) ||
+        changed=$(git --no-optional-locks status --porcelain --untracked-files=all --ignored -- bin crates crates.txt ':(exclude,glob)crates/*/out/**') ||
         fail "git cannot tell which commit $root is"
     if [[ -n $changed ]]; then
         changed=$(sources) || fail "the sources in $root cannot all be read, or some are links"
         changed=", with changes that are not committed: sources $changed"
     fi
-    with=$(toolchain) && [[ -n $with ]] || fail 'rt is not on the PATH and has built no program here, so the toolchain is not known'
+    with=$(if have rt; then rt version </dev/null; else toolchain; fi) && [[ -n $with ]] || fail 'rt is not on the PATH and has built no program here, so the toolchain is not known'
     print "dzaghvori $commit$changed
 $with"
 }

@@ -3,11 +3,13 @@
 # shellcheck shell=bash
 : "${name:?}" "${root:?}"
 
-program=target/bin/$name
-stamp=target/stamp/$name   # rt's: where it is right rt builds nothing, whatever has become of the program
-record=target/built/$name  # what the program was built from, and its own hash
-log=target/built/$name.log # what rt printed
-began=target/built/began   # as old as the build that is at work
+folder=crates/$name
+made=$folder/out/$name         # where rt leaves the program: `rt ci` puts another in its place
+program=target/bin/$name       # the copy that is asked
+record=target/built/$name      # what the program was built from, and its own hash
+log=target/built/$name.log     # what rt printed
+printed=target/built/$name.out # what the program printed when rt ran it
+began=target/built/began       # as old as the build that is at work
 
 say() { printf '%s: %s\n' "$name" "$1" >&2; }
 
@@ -15,16 +17,29 @@ have() { [[ -n $(type -P "$1") ]]; } # COMMAND
 
 hash() { sha256sum | cut -c 1-64; }
 
+# Finds among the sources and the list of crates. What rt makes, crates/NAME/out, is none.
+find_sources() { # TESTS...
+    find crates crates.txt -regex 'crates/[^/]*/out' -prune -o "$@"
+}
+
 # Prints one hash of every source and of the list of crates. A link is refused: rt follows none.
 sources() {
     local links
-    links=$(find crates crates.txt -type l) && [[ -z $links ]] || return 1
-    find crates crates.txt -type f -exec sha256sum {} + | LC_ALL=C sort -k 2 | hash
+    links=$(find_sources -type l -print) && [[ -z $links ]] || return 1
+    find_sources -type f -exec sha256sum {} + | LC_ALL=C sort -k 2 | hash
 }
 
-# Prints the identity of the toolchain that is here or, without one, of the toolchain that built the program.
+# Prints the identity of the toolchain that is here or, without one, of the toolchain that built the program. `rt version` takes half a second, so the
+# file that it prints is read, where there is one.
 toolchain() {
-    if have rt; then rt version; else sed -n 's/^toolchain //p' "$record" 2>/dev/null; fi
+    local rt
+    if ! have rt; then
+        sed -n 's/^toolchain //p' "$record" 2>/dev/null
+    elif rt=$(readlink -f -- "$(type -P rt)") && [[ -s ${rt%/bin/rt}/KIT-ID ]]; then
+        cat -- "${rt%/bin/rt}/KIT-ID"
+    else
+        rt version </dev/null
+    fi
 }
 
 # Prints what a program that is built now is built from, in two lines.
@@ -45,7 +60,7 @@ current() {
     as_built && was=$(head -n 2 "$record" 2>/dev/null) && now=$(origin) && [[ -n $now && $now == "$was" ]]
 }
 
-full() { fail "the disk of $root or of ${TMPDIR:-/tmp} is full: make room, of which a build takes up to 260 MB on either, and ask again"; }
+full() { fail "the disk of $root or of ${TMPDIR:-/tmp} is full: make room, of which a build takes up to TIMES GB, and ask again"; }
 
 # Waits until no other caller builds here. What is locked is the checkout's folder, and until this shell and all that it started have ended or
 # let it go.
@@ -62,18 +77,18 @@ take_lock() {
     [[ $ended == 0 ]] || fail "$root cannot be locked for a build: clone the repository to a disk of this machine and ask there"
 }
 
-# Prints a crate and all that it stands on.
+# Prints all that a crate stands on and the crate, in the order in which rt proves them.
 crates_below() { # CRATE
     awk -v want="$1" '
         function visit(crate, list, k, n) {
             if (crate in seen || !(crate in below)) return
             seen[crate]
-            print crate
             n = split(below[crate], list, " ")
             for (k = 1; k <= n; k++) visit(list[k])
+            print crate
         }
-        { sub(/#.*/, ""); at = index($0, ":"); crate = substr($0, 1, at - 1); gsub(/[ \t]/, "", crate) }
-        at { below[crate] = substr($0, at + 1) }
+        { sub(/#.*/, ""); at = index($0, ":"); split(substr($0, 1, at - 1), words, " ") }
+        at { below[words[1]] = substr($0, at + 1) }
         END { visit(want) }
     ' crates.txt
 }
@@ -83,32 +98,31 @@ so_far() {
     printf '%d s' "$((SECONDS % 60))"
 }
 
-# rt writes target/log/CRATE.out from when it begins a crate, and says there at the end what became of it.
-begun() { [[ -e target/log/$1.out && ! target/log/$1.out -ot $began ]]; } # CRATE
-ended() { grep -q "^rt: $1 " "target/log/$1.out"; }                        # CRATE
-
-# Says why there is a build and which crates are being proved, until it is ended: on one line of a terminal, elsewhere in a line for each. A crate
-# that has not changed is at work for no longer than one look, and is not spoken of.
+# Says why there is a build, which crate is being proved and what rt waits for, until it is ended: on one line of a terminal, elsewhere in a line for
+# each. rt prints a line when it begins a crate, and none for a crate that has not changed.
 progress() { # WHY CRATES
-    local why=$1 crate met before=' ' said=' ' count now
+    local why=$1 crate line heard=0 now=
+    local -A number=()
     shift
+    for crate in "$@"; do number[$crate]=$((${#number[@]} + 1)); done
     while kill -0 "$$" 2>/dev/null; do
-        count=0 met=' ' now=
-        for crate in "$@"; do
-            begun "$crate" || continue
-            if ended "$crate"; then count=$((count + 1)); else met+="$crate "; fi
-        done
-        for crate in $met; do
-            count=$((count + 1))
-            [[ $before == *" $crate "* ]] || continue
+        while IFS= read -r line; do
+            heard=$((heard + 1))
+            crate=${line##* }
+            [[ $line == *'waiting for '* || -n ${number[$crate]-} ]] || continue
             [[ -z $why ]] || say "$why"
             why=
-            now+="${now:+, }$crate"
-            [[ -t 2 || $said == *" $crate "* ]] || say "proving $count of $#: $crate ($(so_far))"
-            said+="$crate "
-        done
-        before=$met
-        [[ ! -t 2 || -z $now ]] || printf '\r\033[K%s: proving %d of %d: %s (%s)' "$name" "$count" "$#" "$now" "$(so_far)" >&2
+            if [[ $line == *'waiting for '* ]]; then
+                [[ ! -t 2 || -z $now ]] || printf '\r\033[K' >&2
+                say "${line#rt: }"
+            else
+                now="${number[$crate]} of $#: $crate"
+                [[ -t 2 ]] || say "proving $now ($(so_far))"
+            fi
+        done < <(sed -n -e '/^rt: chose --jobs [0-9]* for /p' -e '/^rt: .*waiting for /p' "$log" 2>/dev/null | tail -n "+$((heard + 1))")
+        # before the first crate rt reads all sources
+        [[ -z $why || $SECONDS -lt 3 ]] || { say "$why" && why=; }
+        [[ ! -t 2 || -z $now ]] || printf '\r\033[K%s: proving %s (%s)' "$name" "$now" "$(so_far)" >&2
         sleep 0.2
     done
 }
@@ -122,82 +136,105 @@ end_progress() {
     [[ ! -t 2 ]] || printf '\r\033[K' >&2
 }
 
-# Ends what is left of a build, in an interrupted one all of it. rt starts the prover so that an interrupt does not reach it, so it has a process group of
-# its own, which is ended as a whole; and a folder for its temporary files, up to 260 MB, which an interrupted prover leaves behind.
+# Prints the processes of a build that are left: those that were told to keep their temporary files in its folder.
+left_of_build() { grep -lzxF -- "TMPDIR=$workshop" /proc/[0-9]*/environ 2>/dev/null | tr -dc '0-9\n' || true; }
+
+# Waits until none is left, for a time.
+wait_for_left() { # TIMES
+    local times
+    for ((times = 0; times < $1; times++)); do
+        [[ -n $(left_of_build) ]] || return 0
+        sleep 0.05
+    done
+}
+
+# Ends what is left of a build, in an interrupted one all of it. rt has a process group of its own, so that an interrupt does not reach it, and is ended
+# here; the prover, which ends with rt, may take a moment more. It leaves its temporary files behind then, and rt what it was copying.
 builder=
 workshop=
 end_build() {
-    local times
     end_progress
-    if [[ -n $builder ]] && kill -TERM -- "-$builder" 2>/dev/null; then
-        for ((times = 0; times < 100; times++)); do
-            kill -0 -- "-$builder" 2>/dev/null || break
-            sleep 0.05
-        done
-        kill -KILL -- "-$builder" 2>/dev/null || true
+    if [[ -n $builder ]]; then
+        kill -TERM -- "-$builder" 2>/dev/null || true
+        wait_for_left 100
+        left_of_build | xargs -r kill -KILL 2>/dev/null || true
+        wait_for_left 20
+        rm -rf -- crates/*/out/rt-work-"$builder"-* || true
     fi
     builder=
     [[ -z $workshop ]] || rm -rf -- "$workshop" || true
     workshop=
 }
 
-# Makes the folders of a build, or says what to do.
-make_room() {
-    local said
-    said=$({ mkdir -p target/built && touch "$began"; } 2>&1) || {
-        [[ $said != *'No space left'* ]] || full
-        fail "nothing can be written in $root (${said##*: }): get leave to write there, or clone the repository to where you have it and ask there"
+# Makes the folders of a build, or says what to do. What rt makes lies in each crate's folder, which is then as old as before the build.
+make_room() { # CRATES
+    local told crate
+    told=$({
+        mkdir -p target/bin target/built && : >"$log" && : >"$printed" || exit
+        for crate in "$@"; do
+            mkdir -p "crates/$crate/out" || exit
+            [[ -w crates/$crate/out ]] || echo "crates/$crate/out: Permission denied"
+        done
+        touch "$began"
+    } 2>&1) && [[ -z $told ]] || {
+        [[ $told != *'No space left'* ]] || full
+        told=${told%%$'\n'*}
+        fail "nothing can be written in $root (${told##*: }): get leave to write there, or clone the repository to where you have it and ask there"
     }
-    # rt runs the program there too, as nobody where it is root
-    workshop=$(mktemp -d) && chmod 711 "$workshop" || fail "no temporary folder can be made: set TMPDIR to a folder where you may write"
+    workshop=$(mktemp -d) || fail "no temporary folder can be made: set TMPDIR to a folder where you may write"
 }
 
-# What rt has built and then found wanting is not kept: the next call would ask it.
-fail_build() {
-    local said
+# What was built before is not kept then: it is not what the sources give now.
+fail_build() { # WHAT
+    local told
     end_build
-    rm -f -- "$program" "$stamp"
-    said=$({ cat "$log" && head -c 1000000 /dev/zero >"$log.room"; } 2>&1 | grep -a -m 1 'No space left on device') || true
+    rm -f -- "$program"
+    told=$({ cat "$log" && head -c 1000000 /dev/zero >"$log.room"; } 2>&1 | grep -a -m 1 'No space left on device') || true
     rm -f -- "$log.room"
-    [[ -z $said ]] || full
-    fail "rt check $name failed, so there is no program to ask: $root/$log has what it printed"
+    [[ -z $told ]] || full
+    fail "$1, so there is no program to ask: $root/$log has what it printed"
 }
 
 # Builds the program and records what from. The caller has the lock.
 prove() { # WHY
-    local from crates why="$1: building it."
+    local from told crates given=/dev/null why="$1: building it."
     from=$(origin) || fail "the sources in $root cannot all be read, or some are links, or rt does not tell its version"
     mapfile -t crates < <(crates_below "$name")
-    [[ -n $(find target/stamp -type f 2>/dev/null) ]] ||
-        why+=" The first build proves ${#crates[@]} crates, which took between 3 min 41 s and 4 min 41 s on two cores."
-    # rt goes by its stamp and does not look at the program. One that is recorded, or has not changed since rt made its stamp, is what rt has built. Any
-    # other goes, and the stamp with it, so that rt links it again.
-    as_built || [[ -s $program && -x $program && -z $(find "$program" -cnewer "$stamp" 2>&1) ]] || rm -f -- "$program" "$stamp"
+    compgen -G 'crates/*/out/rlib/stamp' >/dev/null ||
+        why+=" The first build proves ${#crates[@]} crates, which took between TIMES on four cores."
     rm -f -- "$record"
-    make_room
+    make_room "${crates[@]}"
+    [[ ! -f $folder/stdin ]] || given=$folder/stdin
     SECONDS=0
     progress "$why" "${crates[@]}" {held}<&- &
     watcher=$!
     set -m # so that rt has its own group
-    TMPDIR=$workshop rt check "$name" </dev/null >"$log" 2>&1 &
+    (cd "$folder" && exec env -u RT_BACKEND -u RT_ALLOW_C TMPDIR="$workshop" rt run) <"$given" >"$printed" 2>"$log" &
     builder=$!
     set +m
-    wait "$builder" || fail_build
+    wait "$builder" || fail_build "rt run $name failed"
     end_build
-    if [[ ! -x $program || ! -s $program ]]; then
-        rm -f -- "$stamp"
-        fail "rt check $name has not built $program: $root/$log has what it printed"
-    fi
-    # What rt has read may be neither the old nor the new sources then, also where they have been put back.
-    if [[ -n $(find crates crates.txt -cnewer "$began" 2>&1) || $(origin) != "$from" ]]; then
-        rm -rf -- "$program" target/stamp
+    [[ -x $made && -s $made ]] || fail_build "rt run $name has not built $made"
+    # What rt has read may be neither the old nor the new sources then, also where they have been put back, and its stamps may be wrong.
+    if [[ -n $(find_sources -cnewer "$began" -print 2>&1) || $(origin) != "$from" ]]; then
+        rm -f -- "$program" "$made" crates/*/out/rlib/stamp
         fail "the sources, the toolchain or target/ have changed while $program was built: ask again"
     fi
+    [[ ! -f $folder/stdout ]] || cmp -s -- "$folder/stdout" "$printed" ||
+        fail_build "the program that rt run $name has built does not print what $folder/stdout has"
+    told=$({ cp -- "$made" "$program.new" && mv -f -- "$program.new" "$program"; } 2>&1) || {
+        rm -f -- "$program.new"
+        [[ $told != *'No space left'* ]] || full
+        fail "cannot write $root/$program: ${told##*: }"
+    }
     { printf '%s\n' "$from" && hash <"$program"; } >"$record" || fail "cannot write $root/$record"
     ((SECONDS < 3)) || say "built ($(so_far))"
 }
 
-need_rt() { have rt || fail "$1, and rt, which builds it, is not on the PATH: README.md says where rt comes from"; } # WHY
+need_rt() { # WHY
+    have rt || fail "$1, and rt, which builds it, is not on the PATH: README.md says where rt comes from"
+    [[ $(uname -m) == x86_64 ]] || fail "$1, and rt, which builds it, runs on x86-64 alone, and not on $(uname -m)"
+}
 
 # Builds the program, unless another caller has done so while this one waited.
 build() {

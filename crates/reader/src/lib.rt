@@ -22,7 +22,8 @@ const NEVER_DEFINED: usize = 8;
 
 const LEADS_ROUND: usize = 9;
 
-// 8, then 9, then the table.
+// 8, then 9, then the table. In a frame of its own, so that its areas are not there while the calls that read types run.
+#[inline(never)]
 fn resolve(
     text: &[u8],
     nodes: &[u16; TEXT_MOST],

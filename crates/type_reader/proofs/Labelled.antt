@@ -28,7 +28,7 @@ use Rattle.rules.proofs.Reached.{Reached, Refuses}
 use Rattle.rules.proofs.TokenLists.{token_spelling}
 use Rattle.rules.proofs.OneToken.{counted, fault_symbol, fault_long}
 use Rattle.rules.proofs.TokensBehind.{tokens_behind}
-use Rattle.cursor.specs.Takes.{Ahead, Takes, kind, word_kind}
+use Rattle.cursor.specs.Takes.{Ahead, Takes, word_kind}
 use Rattle.cursor.specs.declared.Cursor.{Cursor}
 use Rattle.cursor.specs.declared.Taken.{Taken}
 use Rattle.cursor.proofs.Symbols.{kind_of_word}

@@ -20,7 +20,7 @@ use Rattle.rules.proofs.Reached.{Reached, Refuses}
 use Rattle.rules.proofs.Taken.{this_step}
 use Rattle.rules.proofs.OneToken.{counted, opens_symbol, closes_symbol, begins_symbol, next_symbol, nodes_same, brackets_plain, brackets_opened}
 use Rattle.rules.proofs.TokensBehind.{tokens_behind}
-use Rattle.cursor.specs.Takes.{Ahead, Takes, reserved_kind, word_kind, kind}
+use Rattle.cursor.specs.Takes.{Ahead, Takes, reserved_kind, word_kind}
 use Rattle.cursor.specs.declared.Cursor.{Cursor}
 use Rattle.cursor.specs.declared.Taken.{Taken}
 use Rattle.cursor.proofs.Symbols.{kind_of_byte}

@@ -5,7 +5,6 @@ use lib.ListN.{replicate}
 use Rattle.rules.specs.Numbers.{table_nodes_most}
 use Rattle.table.specs.declared.answers.Answer.TheVariants.{Refused}
 use Rattle.table.specs.declared.Node.{Node}
-use borrow.Author.Rules.{rules}
 use Rattle.blanks.proofs.refused.Goals as goal
 
 pub returns : goal.returns

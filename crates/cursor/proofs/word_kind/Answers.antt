@@ -2,7 +2,6 @@
 -- Assumes nothing.
 use native.Mathlib.Omega.{arith}
 use Rattle.cursor.proofs.Taking.{reserved_number, other_number}
-use borrow.Author.Rules.{rules}
 use Rattle.cursor.proofs.word_kind.Goals as goal
 
 pub returns-then-k-lt-RESERVED_COUNT : goal.returns-then-k-lt-RESERVED_COUNT

@@ -1,6 +1,5 @@
 -- `dual::dual_count` meets its contract, by whether the originals are there.
 -- Assumes nothing.
-use borrow.Author.Rules.{rules}
 use mathlib.Core.Bool.{Bool}
 use mathlib.Core.Path.{sym, ap}
 use Rattle.rules.specs.Dual.{dual_count}

@@ -1,12 +1,7 @@
 -- `dual::hands_over` meets its contract: no node below `i` has a session item.
 -- Assumes nothing.
-use borrow.Author.Rules.{rules}
-use mathlib.Core.Bool.{false}
-use mathlib.Core.Path.{◌≡◌}
-use Prim.Native.Nat.{ℕ, ◌≤◌, ◌<◌, ◌-◌}
 use native.Mathlib.Omega.{arith}
-use Rattle.rules.specs.Tables.{node_at}
-use Rattle.rules.specs.Dual.{hands_over_at, hands_over}
+use Rattle.rules.specs.Dual.{hands_over}
 use Rattle.rules.proofs.Basics.{some_met, none_met, none_at_all}
 use Rattle.dual.proofs.hands_over.Goals as goal
 

@@ -1,11 +1,7 @@
 -- `dual::hands_over_at` meets its contract: no item below `i` is a session.
 -- Assumes nothing.
-use borrow.Author.Rules.{rules}
-use mathlib.Core.Bool.{false}
-use mathlib.Core.Path.{◌≡◌, ap, ◌∙◌}
-use Prim.Native.Nat.{ℕ, ◌≤◌, ◌<◌, ◌-◌}
+use mathlib.Core.Path.{ap, ◌∙◌}
 use native.Mathlib.Omega.{arith}
-use Rattle.rules.specs.Tables.{item_at}
 use Rattle.rules.specs.Dual.{is_session, hands_over_at}
 use Rattle.rules.proofs.Basics.{some_met, none_met, none_at_all}
 use Rattle.dual.proofs.hands_over_at.Goals as goal

@@ -1,13 +1,10 @@
 -- `dual::hands_over_at` meets its contract: no item below `i` is a session.
 -- Assumes nothing.
-use borrow.Author.Rules.{rules}
 use mathlib.Core.Bool.{false}
-use mathlib.Core.Path.{◌≡◌, ap, ◌∙◌}
+use mathlib.Core.Path.{◌≡◌}
 use Prim.Native.Nat.{ℕ, ◌≤◌, ◌<◌, ◌-◌}
-use native.Mathlib.Omega.{arith}
 use Rattle.rules.specs.Tables.{item_at}
-use Rattle.rules.specs.Dual.{is_session, hands_over_at}
-use Rattle.rules.proofs.Basics.{some_met, none_met, none_at_all}
+use Rattle.rules.specs.Dual.{is_session}
 use Rattle.dual.proofs.hands_over_at.Given as goal
 
 abbrev pub invariant-loop-i : goal.invariant-loop-i

@@ -1,6 +1,5 @@
 -- `dual::moved_item` meets its contract, by the item's variant.
 -- Assumes nothing.
-use borrow.Author.Rules.{rules}
 use mathlib.Core.Path.{sym, ap}
 use native.Mathlib.Omega.{arith}
 use Rattle.rules.specs.Dual.{moved_item}

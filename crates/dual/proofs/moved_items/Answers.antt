@@ -1,13 +1,8 @@
 -- `dual::moved_items` meets its contract: the items below `i` are moved.
 -- Assumes nothing.
-use borrow.Author.Rules.{rules}
-use mathlib.Core.Path.{◌≡◌, sym, ap, ◌∙◌}
-use Prim.Native.Nat.{◌-◌, ◌≤◌}
+use mathlib.Core.Path.{sym, ap, ◌∙◌}
 use native.Mathlib.Omega.{arith}
-use Rattle.rules.specs.Numbers.{items_most}
-use Rattle.rules.specs.Tables.{blank_slot, item_at}
 use Rattle.rules.specs.Dual.{moved_item}
-use Rattle.rules.specs.Basics.{listed, fill}
 use Rattle.rules.proofs.Filling.{fills_none, fills_one, fills_all}
 use Rattle.table.specs.declared.Item.{Item}
 use Rattle.dual.proofs.moved_items.Goals as goal

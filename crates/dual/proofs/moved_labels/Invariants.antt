@@ -1,14 +1,11 @@
 -- `dual::moved_labels` meets its contract: the labels below `i` are moved.
 -- Assumes nothing.
-use borrow.Author.Rules.{rules}
-use mathlib.Core.Path.{◌≡◌, ap, ◌∙◌}
+use mathlib.Core.Path.{◌≡◌}
 use Prim.Native.Nat.{◌-◌, ◌≤◌}
-use native.Mathlib.Omega.{arith}
 use Rattle.rules.specs.Numbers.{labels_most}
 use Rattle.rules.specs.Tables.{blank_label, label_at}
 use Rattle.rules.specs.Dual.{moved_label}
 use Rattle.rules.specs.Basics.{listed, fill}
-use Rattle.rules.proofs.Filling.{fills_none, fills_one, fills_all}
 use Rattle.dual.proofs.moved_labels.Given as goal
 
 abbrev pub invariant-loop-i : goal.invariant-loop-i

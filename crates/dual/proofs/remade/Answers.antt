@@ -1,6 +1,5 @@
 -- `dual::remade` meets its contract: its parts are made by calls.
 -- Assumes nothing.
-use borrow.Author.Rules.{rules}
 use native.Mathlib.Omega.{arith}
 use Rattle.dual.proofs.Nodes.{node_remade}
 use Rattle.dual.proofs.remade.Goals as goal

@@ -1,6 +1,5 @@
 -- `dual::turned_node` meets its contract.
 -- Assumes nothing.
-use borrow.Author.Rules.{rules}
 use native.Mathlib.Omega.{arith}
 use Rattle.dual.proofs.Nodes.{node_turned}
 use Rattle.dual.proofs.turned_node.Goals as goal

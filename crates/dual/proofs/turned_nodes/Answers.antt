@@ -1,14 +1,9 @@
 -- `dual::turned_nodes` meets its contract: the nodes below `i` are turned.
 -- Assumes nothing.
-use borrow.Author.Rules.{rules}
-use mathlib.Core.Path.{◌≡◌, ap, ◌∙◌}
-use Prim.Native.Nat.{◌-◌, ◌≤◌}
+use mathlib.Core.Path.{ap, ◌∙◌}
 use native.Mathlib.Omega.{arith}
 use lib.ListN.{replicate}
 use Rattle.rules.specs.Numbers.{table_nodes_most}
-use Rattle.rules.specs.Tables.{blank_node, node_at}
-use Rattle.rules.specs.Dual.{turned_node}
-use Rattle.rules.specs.Basics.{listed, fill}
 use Rattle.rules.proofs.Filling.{fills_none, fills_one, fills_all}
 use Rattle.table.specs.declared.Node.{Node}
 use Rattle.dual.proofs.turned_nodes.Goals as goal

@@ -1,16 +1,11 @@
 -- `dual::turned_nodes` meets its contract: the nodes below `i` are turned.
 -- Assumes nothing.
-use borrow.Author.Rules.{rules}
-use mathlib.Core.Path.{◌≡◌, ap, ◌∙◌}
+use mathlib.Core.Path.{◌≡◌}
 use Prim.Native.Nat.{◌-◌, ◌≤◌}
-use native.Mathlib.Omega.{arith}
-use lib.ListN.{replicate}
 use Rattle.rules.specs.Numbers.{table_nodes_most}
 use Rattle.rules.specs.Tables.{blank_node, node_at}
 use Rattle.rules.specs.Dual.{turned_node}
 use Rattle.rules.specs.Basics.{listed, fill}
-use Rattle.rules.proofs.Filling.{fills_none, fills_one, fills_all}
-use Rattle.table.specs.declared.Node.{Node}
 use Rattle.dual.proofs.turned_nodes.Given as goal
 
 abbrev pub invariant-loop-i : goal.invariant-loop-i

@@ -1,10 +1,7 @@
 -- `dual::with_originals` meets its contract: the originals below `i` are behind the turned nodes.
 -- Assumes nothing.
-use borrow.Author.Rules.{rules}
-use mathlib.Core.Path.{◌≡◌}
-use Prim.Native.Nat.{◌-◌, ◌≤◌}
 use native.Mathlib.Omega.{arith}
-use Rattle.dual.proofs.Nodes.{both_until, turned_there, one_original, both_there}
+use Rattle.dual.proofs.Nodes.{turned_there, one_original, both_there}
 use Rattle.dual.proofs.with_originals.Goals as goal
 
 pub turned_nodes-all-requires : goal.turned_nodes-all-requires

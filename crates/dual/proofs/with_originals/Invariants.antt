@@ -1,10 +1,8 @@
 -- `dual::with_originals` meets its contract: the originals below `i` are behind the turned nodes.
 -- Assumes nothing.
-use borrow.Author.Rules.{rules}
 use mathlib.Core.Path.{◌≡◌}
 use Prim.Native.Nat.{◌-◌, ◌≤◌}
-use native.Mathlib.Omega.{arith}
-use Rattle.dual.proofs.Nodes.{both_until, turned_there, one_original, both_there}
+use Rattle.dual.proofs.Nodes.{both_until}
 use Rattle.dual.proofs.with_originals.Given as goal
 
 abbrev pub invariant-loop-i : goal.invariant-loop-i

@@ -1,13 +1,10 @@
 -- `flat::find_word` meets its contract: w is none of the words in the rows below `i`.
 -- Assumes nothing.
 use borrow.Author.Count.{below_more}
-use borrow.Author.Rules.{rules}
-use mathlib.Core.Bool.{false}
-use mathlib.Core.Path.{◌≡◌, sym, ap, ◌∙◌}
-use Prim.Native.Nat.{ℕ, ◌+◌, ◌*◌, ◌≤◌, ◌<◌, ◌-◌}
+use mathlib.Core.Path.{sym, ap, ◌∙◌}
+use Prim.Native.Nat.{◌+◌, ◌*◌}
 use native.Mathlib.Omega.{arith}
-use lib.ListN.{get_or}
-use Rattle.rules.specs.Basics.{part, same}
+use Rattle.rules.specs.Basics.{same}
 use Rattle.rules.proofs.Basics.{first_here, first_nowhere}
 use Rattle.flat.specs.Flat.{row, word_found}
 use Rattle.flat.proofs.find_word.Goals as goal

@@ -7,7 +7,6 @@ use native.Mathlib.Omega.{arith}
 use mathlib.Core.List.{List}
 use lib.ListN.{length}
 use Rattle.rules.proofs.Basics.{part_cut, part_none}
-use borrow.Author.Rules.{rules}
 use Rattle.flat.proofs.word_at.Goals as goal
 
 pub returns-then-s-at : goal.returns-then-s-at

@@ -1,6 +1,5 @@
 -- `formed::item_formed` meets its contract, by the item's variant.
 -- Assumes nothing.
-use borrow.Author.Rules.{rules}
 use mathlib.Core.Path.{sym, ap}
 use Rattle.rules.specs.Formed.{item_formed}
 use Rattle.formed.proofs.item_formed.Goals as goal

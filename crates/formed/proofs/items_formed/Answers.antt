@@ -1,11 +1,7 @@
 -- `formed::items_formed` meets its contract: the items below `i` are formed.
 -- Assumes nothing.
-use borrow.Author.Rules.{rules}
-use mathlib.Core.Bool.{true}
-use mathlib.Core.Path.{◌≡◌, ap, ◌∙◌}
-use Prim.Native.Nat.{ℕ, ◌≤◌, ◌<◌, ◌-◌}
+use mathlib.Core.Path.{ap, ◌∙◌}
 use native.Mathlib.Omega.{arith}
-use Rattle.rules.specs.Tables.{item_at}
 use Rattle.rules.specs.Formed.{item_formed}
 use Rattle.rules.proofs.Basics.{every_stopped, every_passed, every-ended}
 use Rattle.formed.proofs.items_formed.Goals as goal

@@ -1,6 +1,5 @@
 -- `formed::label_formed` meets its contract: it asks where the label ends, then its link, and what is left is whether it may be a name.
 -- Assumes nothing.
-use borrow.Author.Rules.{rules}
 use mathlib.Core.Path.{sym, ap, ◌∙◌}
 use native.Mathlib.Omega.{arith}
 use Rattle.rules.specs.Words.{may_name}

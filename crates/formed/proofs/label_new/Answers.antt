@@ -1,13 +1,11 @@
 -- `formed::label_new` meets its contract: label i is none of the labels below `j`.
 -- Assumes nothing.
-use borrow.Author.Rules.{rules}
-use mathlib.Core.Bool.{Bool, true, not}
+use mathlib.Core.Bool.{Bool, not}
 use mathlib.Core.List.{List}
 use mathlib.Core.Path.{◌≡◌, ap, ap₂, ◌∙◌}
-use Prim.Native.Nat.{ℕ, ◌≤◌, ◌<◌, ◌-◌}
+use Prim.Native.Nat.{ℕ}
 use native.Mathlib.Omega.{arith}
 use Rattle.rules.specs.Basics.{same}
-use Rattle.rules.specs.Tables.{spelling_at}
 use Rattle.rules.specs.Formed.{label_new}
 use Rattle.rules.proofs.Basics.{every_stopped, every_passed, every-ended}
 use Rattle.formed.proofs.label_new.Goals as goal

@@ -1,15 +1,10 @@
 -- `formed::label_new` meets its contract: label i is none of the labels below `j`.
 -- Assumes nothing.
-use borrow.Author.Rules.{rules}
-use mathlib.Core.Bool.{Bool, true, not}
-use mathlib.Core.List.{List}
-use mathlib.Core.Path.{◌≡◌, ap, ap₂, ◌∙◌}
+use mathlib.Core.Bool.{true, not}
+use mathlib.Core.Path.{◌≡◌}
 use Prim.Native.Nat.{ℕ, ◌≤◌, ◌<◌, ◌-◌}
-use native.Mathlib.Omega.{arith}
 use Rattle.rules.specs.Basics.{same}
 use Rattle.rules.specs.Tables.{spelling_at}
-use Rattle.rules.specs.Formed.{label_new}
-use Rattle.rules.proofs.Basics.{every_stopped, every_passed, every-ended}
 use Rattle.formed.proofs.label_new.Given as goal
 
 abbrev pub invariant-loop-j : goal.invariant-loop-j

@@ -1,13 +1,10 @@
 -- `formed::labels_formed` meets its contract: the labels below `i` are formed.
 -- Assumes nothing.
-use borrow.Author.Rules.{rules}
 use mathlib.Core.Bool.{true}
-use mathlib.Core.Path.{◌≡◌, ap, ◌∙◌}
+use mathlib.Core.Path.{◌≡◌}
 use Prim.Native.Nat.{ℕ, ◌≤◌, ◌<◌, ◌-◌}
-use native.Mathlib.Omega.{arith}
 use Rattle.rules.specs.Tables.{label_at}
 use Rattle.rules.specs.Formed.{label_formed}
-use Rattle.rules.proofs.Basics.{every_stopped, every_passed, every-ended}
 use Rattle.formed.proofs.labels_formed.Given as goal
 
 abbrev pub invariant-loop-i : goal.invariant-loop-i

@@ -1,12 +1,9 @@
 -- `formed::labels_new` meets its contract: each label below `i` is none of those before it.
 -- Assumes nothing.
-use borrow.Author.Rules.{rules}
 use mathlib.Core.Bool.{true}
 use mathlib.Core.Path.{◌≡◌}
 use Prim.Native.Nat.{ℕ, ◌≤◌, ◌<◌, ◌-◌}
-use native.Mathlib.Omega.{arith}
 use Rattle.rules.specs.Formed.{label_new}
-use Rattle.rules.proofs.Basics.{every_stopped, every_passed, every-ended}
 use Rattle.formed.proofs.labels_new.Given as goal
 
 abbrev pub invariant-loop-i : goal.invariant-loop-i

@@ -1,6 +1,5 @@
 -- `formed::message_formed` meets its contract: it asks for the count, then the continuation, and what is left is the items.
 -- Assumes nothing.
-use borrow.Author.Rules.{rules}
 use mathlib.Core.Path.{sym, ◌∙◌}
 use native.Mathlib.Omega.{arith}
 use Rattle.rules.proofs.FormedTests.{message_formed_many, message_formed_outside, message_formed_items}

@@ -1,6 +1,5 @@
 -- `formed::node_formed` meets its contract, by the node's kind.
 -- Assumes nothing.
-use borrow.Author.Rules.{rules}
 use mathlib.Core.Path.{sym, ◌∙◌}
 use Rattle.rules.proofs.FormedTests.{node_formed_kind}
 use Rattle.formed.proofs.node_formed.Goals as goal

@@ -1,13 +1,7 @@
 -- `formed::well_formed` meets its contract: the nodes below `i` are formed.
 -- Assumes nothing.
-use borrow.Author.Rules.{rules}
-use borrow.Author.Tests.{not-true}
-use mathlib.Core.Bool.{true}
-use mathlib.Core.Path.{◌≡◌, sym, ◌∙◌}
-use Prim.Native.Nat.{ℕ, ◌≤◌, ◌<◌, ◌-◌}
+use mathlib.Core.Path.{sym, ◌∙◌}
 use native.Mathlib.Omega.{arith}
-use Rattle.rules.specs.Tables.{node_at}
-use Rattle.rules.specs.Formed.{node_formed}
 use Rattle.rules.proofs.Basics.{every_passed}
 use Rattle.rules.proofs.FormedTests.{well_formed_none, well_formed_many, well_formed_start, well_formed_node, well_formed_nodes}
 use Rattle.formed.proofs.well_formed.Goals as goal
@@ -25,7 +19,7 @@ pub loop-i-init : goal.loop-i-init
 loop-i-init c = (omega arith, λ j l. absurd (omega arith))
 
 pub returns-then-not-node_formed : goal.returns-then-not-node_formed
-returns-then-not-node_formed c = sym (well_formed_node _ _ _ (omega arith) (sym c.node_formed.ensures ∙ not-true _ c.if-not-node_formed.true-raw))
+returns-then-not-node_formed c = sym (well_formed_node _ _ _ (omega arith) (sym c.node_formed.ensures ∙ c.if-not-node_formed.true))
 
 pub loop-i-preserved : goal.loop-i-preserved
 loop-i-preserved c =

@@ -1,15 +1,10 @@
 -- `formed::well_formed` meets its contract: the nodes below `i` are formed.
 -- Assumes nothing.
-use borrow.Author.Rules.{rules}
-use borrow.Author.Tests.{not-true}
 use mathlib.Core.Bool.{true}
-use mathlib.Core.Path.{◌≡◌, sym, ◌∙◌}
+use mathlib.Core.Path.{◌≡◌}
 use Prim.Native.Nat.{ℕ, ◌≤◌, ◌<◌, ◌-◌}
-use native.Mathlib.Omega.{arith}
 use Rattle.rules.specs.Tables.{node_at}
 use Rattle.rules.specs.Formed.{node_formed}
-use Rattle.rules.proofs.Basics.{every_passed}
-use Rattle.rules.proofs.FormedTests.{well_formed_none, well_formed_many, well_formed_start, well_formed_node, well_formed_nodes}
 use Rattle.formed.proofs.well_formed.Given as goal
 
 abbrev pub invariant-loop-i : goal.invariant-loop-i

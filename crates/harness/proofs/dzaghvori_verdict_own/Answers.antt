@@ -1,6 +1,5 @@
 -- `harness::dzaghvori_verdict_own` meets its contract: its areas are long enough for the largest texts.
 -- Assumes nothing.
-use borrow.Author.Rules.{rules}
 use native.Mathlib.Omega.{arith}
 use Rattle.harness.proofs.Own.{tells_own}
 use Rattle.harness.proofs.dzaghvori_verdict_own.Goals as goal

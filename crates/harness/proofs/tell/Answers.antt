@@ -1,6 +1,5 @@
 -- `harness::tell` meets its contract: by what was written.
 -- Assumes nothing.
-use borrow.Author.Rules.{rules}
 use Rattle.harness.specs.Told.{a_line, too_short}
 use Rattle.harness.proofs.tell.Goals as goal
 

@@ -1,6 +1,5 @@
 -- `lines::behind_zero` meets its contract: what is behind the byte 0 is the second text, and nothing is where there is none.
 -- Assumes nothing.
-use borrow.Author.Rules.{rules}
 use Rattle.lines.proofs.Splitting.{second_none, second_here}
 use Rattle.lines.proofs.behind_zero.Goals as goal
 

@@ -1,6 +1,5 @@
 -- `lines::compatible_of_input` meets its contract: the two parts of the input are its two texts.
 -- Assumes nothing.
-use borrow.Author.Rules.{rules}
 use Rattle.lines.proofs.Splitting.{first_long, first_is}
 use Rattle.lines.proofs.compatible_of_input.Goals as goal
 

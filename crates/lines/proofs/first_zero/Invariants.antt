@@ -1,11 +1,8 @@
 -- `lines::first_zero` meets its contract: no byte so far is 0.
 -- Assumes nothing.
-use borrow.Author.Rules.{rules}
 use mathlib.Core.Path.{◌≡◌}
 use Prim.Native.Nat.{ℕ, ◌-◌, ◌<◌, ◌≤◌}
-use native.Mathlib.Omega.{arith}
 use lib.ListN.{length, get_or}
-use borrow.Author.Count.{below_more}
 use Rattle.lines.proofs.first_zero.Given as goal
 
 abbrev pub invariant-loop-i : goal.invariant-loop-i

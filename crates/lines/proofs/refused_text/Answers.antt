@@ -1,6 +1,5 @@
 -- `lines::refused_text` meets its contract: 18 bytes are room for the line of any refusal.
 -- Assumes nothing.
-use borrow.Author.Rules.{rules}
 use mathlib.Core.Path.{refl}
 use native.Mathlib.Omega.{arith}
 use Rattle.rules.proofs.LineLength.{refused-length}

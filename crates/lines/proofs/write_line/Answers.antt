@@ -1,6 +1,5 @@
 -- `lines::write_line` meets its contract: a refused text's line, a short area, or the verdict's line.
 -- Assumes nothing.
-use borrow.Author.Rules.{rules}
 use mathlib.Core.Path.{refl}
 use native.Mathlib.Omega.{arith}
 use Rattle.rules.specs.Writing.{LineAreas}

@@ -1,6 +1,5 @@
 -- `missing::chooser` meets its contract: the new node where the new one chooses, and else the old one.
 -- Assumes nothing.
-use borrow.Author.Rules.{rules}
 use mathlib.Core.Path.{sym, ◌∙◌}
 use Rattle.missing.proofs.Choosing.{chooses_new, chooses_old}
 use Rattle.missing.proofs.chooser.Goals as goal

@@ -1,6 +1,5 @@
 -- `missing::label_of` meets its contract: the label of the new node where the new one chooses, and else of the old one.
 -- Assumes nothing.
-use borrow.Author.Rules.{rules}
 use mathlib.Core.Path.{sym, ◌∙◌}
 use Rattle.missing.proofs.Choosing.{spelled_by_new, spelled_by_old}
 use Rattle.missing.proofs.label_of.Goals as goal

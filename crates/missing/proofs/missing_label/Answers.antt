@@ -1,6 +1,5 @@
 -- `missing::missing_label` meets its contract, by the verdict.
 -- Assumes nothing.
-use borrow.Author.Rules.{rules}
 use mathlib.Core.Path.{sym, ap, ◌∙◌}
 use Rattle.rules.specs.Replies.{missing_label}
 use Rattle.missing.proofs.Fits.{none_after_yes, none_after_refusal}

@@ -1,6 +1,5 @@
 -- `missing::new_chooses` meets its contract: the left one chooses, or the right one, and by the turn that is the new table's or not.
 -- Assumes nothing.
-use borrow.Author.Rules.{rules}
 use mathlib.Core.Path.{sym, ◌∙◌}
 use Rattle.missing.proofs.Choosing.{new_on_the_left, new_on_the_right}
 use Rattle.missing.proofs.new_chooses.Goals as goal

@@ -1,10 +1,9 @@
 -- `names::end_of` meets its contract: from `at` on, through the names that are left, the same is got to as from d through n.
 -- Assumes nothing.
 use mathlib.Core.List.{List}
-use mathlib.Core.Path.{◌≡◌, refl, sym, ◌∙◌}
-use Prim.Native.Nat.{ℕ, ◌<◌}
+use mathlib.Core.Path.{refl, sym, ◌∙◌}
+use Prim.Native.Nat.{ℕ}
 use native.Mathlib.Omega.{arith}
-use Rattle.names.specs.Following.{leads}
 use Rattle.names.proofs.Loops.{leads_none, leads_here, leads_on}
 use Rattle.names.proofs.end_of.Goals as goal
 

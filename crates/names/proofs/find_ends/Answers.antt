@@ -1,9 +1,6 @@
 -- `names::find_ends` meets its contract: each definition below `d` leads to a node, and which is written.
 -- Assumes nothing.
-use Prim.Native.Nat.{◌≤◌, ◌-◌}
 use native.Mathlib.Omega.{arith}
-use Rattle.flat.specs.Flat.{a_use}
-use Rattle.names.specs.Following.{leads, Written}
 use Rattle.names.proofs.Loops.{none_written, not_written, all_written, one_written}
 use Rattle.names.proofs.find_ends.Goals as goal
 

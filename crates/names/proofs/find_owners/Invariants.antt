@@ -1,14 +1,7 @@
 -- `names::find_owners` meets its contract: each use below `u` names a definition, and which is written.
 -- Assumes nothing.
-use borrow.Author.Rules.{rules}
-use mathlib.Core.List.{List}
-use mathlib.Core.Path.{◌≡◌}
-use Prim.Native.Nat.{ℕ, ◌≤◌, ◌-◌}
-use native.Mathlib.Omega.{arith}
-use Rattle.rules.specs.Words.{word_byte}
-use Rattle.rules.proofs.TokensBehind.{past_from}
-use Rattle.names.specs.Following.{owner, OwnersFound}
-use Rattle.names.proofs.Loops.{owner_found, none_written, not_written, all_written, one_written}
+use Prim.Native.Nat.{◌≤◌, ◌-◌}
+use Rattle.names.specs.Following.{OwnersFound}
 use Rattle.names.proofs.find_owners.Given as goal
 
 abbrev pub invariant-loop-u : goal.invariant-loop-u

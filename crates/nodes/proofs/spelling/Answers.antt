@@ -1,6 +1,5 @@
 -- `nodes::spelling` meets its contract: a part that would go past the name bytes is cut where they end.
 -- Assumes nothing.
-use borrow.Author.Rules.{rules}
 use mathlib.Core.List.{List}
 use mathlib.Core.Path.{sym, ◌∙◌}
 use Prim.Native.Nat.{ℕ, ◌-◌}

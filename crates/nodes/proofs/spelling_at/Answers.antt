@@ -1,6 +1,5 @@
 -- `nodes::spelling_at` meets its contract.
 -- Assumes nothing.
-use borrow.Author.Rules.{rules}
 use mathlib.Core.Path.{ap, ◌∙◌}
 use Rattle.rules.specs.Tables.{spelling}
 use Rattle.nodes.proofs.spelling_at.Goals as goal

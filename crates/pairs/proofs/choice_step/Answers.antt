@@ -1,6 +1,5 @@
 -- `pairs::choice_step` meets its contract: the places say where the chooser's labels stand.
 -- Assumes nothing.
-use borrow.Author.Rules.{rules}
 use mathlib.Core.Path.{sym}
 use native.Mathlib.Omega.{arith}
 use Rattle.pairs.proofs.Steps.{step_to_label, no-choice_step}

@@ -1,6 +1,5 @@
 -- `pairs::compare` meets its contract: the reasons in their order, then the labels of the chooser.
 -- Assumes nothing.
-use borrow.Author.Rules.{rules}
 use mathlib.Core.Path.{sym, ◌∙◌}
 use native.Mathlib.Omega.{arith}
 use Rattle.pairs.proofs.Comparing.{compared_wrong, kinds_wrong, counts_wrong, item_wrong, compared_left, compared_right}

@@ -1,11 +1,9 @@
 -- `pairs::cover` meets its contract: the labels of x before the one at `i` are found, and their places kept. The two arrays are those of
 -- the nodes, and are read within their room.
 -- Assumes nothing.
-use borrow.Author.Rules.{rules}
 use mathlib.Core.Path.{refl}
-use Prim.Native.Nat.{◌≤◌, ◌-◌}
 use native.Mathlib.Omega.{arith}
-use Rattle.pairs.proofs.Labels.{listed_once, PlacedBefore, place_one, lacks_one, lacks_none}
+use Rattle.pairs.proofs.Labels.{listed_once, place_one, lacks_one, lacks_none}
 use Rattle.pairs.proofs.cover.Goals as goal
 
 pub loop-i-init : goal.loop-i-init

@@ -1,6 +1,5 @@
 -- `pairs::exchanged` meets its contract, by the variant.
 -- Assumes nothing.
-use borrow.Author.Rules.{rules}
 use mathlib.Core.Path.{refl}
 use Rattle.pairs.proofs.exchanged.Goals as goal
 

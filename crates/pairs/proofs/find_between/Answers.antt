@@ -1,14 +1,12 @@
 -- `pairs::find_between` meets its contract: the list has the label at no position from `low` on and below `j`.
 -- Assumes nothing.
 use borrow.Author.Count.{below_more}
-use borrow.Author.Rules.{rules}
-use mathlib.Core.Bool.{Bool, false}
+use mathlib.Core.Bool.{Bool}
 use mathlib.Core.List.{List}
 use mathlib.Core.Path.{◌≡◌, sym, ap, ◌∙◌}
-use Prim.Native.Nat.{ℕ, ◌≤◌, ◌<◌, ◌-◌}
+use Prim.Native.Nat.{ℕ}
 use native.Mathlib.Omega.{arith}
 use Rattle.rules.specs.Basics.{same}
-use Rattle.pairs.specs.Beside.{spelled}
 use Rattle.pairs.proofs.find_between.Goals as goal
 
 -- a word that was compared with another, and what that is

@@ -1,12 +1,8 @@
 -- `pairs::find_between` meets its contract: the list has the label at no position from `low` on and below `j`.
 -- Assumes nothing.
-use borrow.Author.Count.{below_more}
-use borrow.Author.Rules.{rules}
-use mathlib.Core.Bool.{Bool, false}
-use mathlib.Core.List.{List}
-use mathlib.Core.Path.{◌≡◌, sym, ap, ◌∙◌}
+use mathlib.Core.Bool.{false}
+use mathlib.Core.Path.{◌≡◌}
 use Prim.Native.Nat.{ℕ, ◌≤◌, ◌<◌, ◌-◌}
-use native.Mathlib.Omega.{arith}
 use Rattle.rules.specs.Basics.{same}
 use Rattle.pairs.specs.Beside.{spelled}
 use Rattle.pairs.proofs.find_between.Given as goal

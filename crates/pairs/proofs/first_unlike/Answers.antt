@@ -1,14 +1,9 @@
 -- `pairs::first_unlike` meets its contract: the items below `i` agree. The arrays are those of the two nodes, read within their room.
 -- Assumes nothing.
 use borrow.Author.Count.{below_more}
-use borrow.Author.Rules.{rules}
-use mathlib.Core.Bool.{false, not}
-use mathlib.Core.Path.{◌≡◌, sym, ap, ◌∙◌}
-use Prim.Native.Nat.{ℕ, ◌≤◌, ◌<◌, ◌-◌}
+use mathlib.Core.Bool.{not}
+use mathlib.Core.Path.{sym, ap, ◌∙◌}
 use native.Mathlib.Omega.{arith}
-use lib.ListN.{get_or}
-use Rattle.rules.specs.Tables.{blank_slot}
-use Rattle.rules.specs.Pairs.{items_agree}
 use Rattle.rules.proofs.Basics.{first_here, first_nowhere}
 use Rattle.pairs.proofs.first_unlike.Goals as goal
 

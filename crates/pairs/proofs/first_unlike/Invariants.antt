@@ -1,15 +1,11 @@
 -- `pairs::first_unlike` meets its contract: the items below `i` agree. The arrays are those of the two nodes, read within their room.
 -- Assumes nothing.
-use borrow.Author.Count.{below_more}
-use borrow.Author.Rules.{rules}
 use mathlib.Core.Bool.{false, not}
-use mathlib.Core.Path.{◌≡◌, sym, ap, ◌∙◌}
+use mathlib.Core.Path.{◌≡◌}
 use Prim.Native.Nat.{ℕ, ◌≤◌, ◌<◌, ◌-◌}
-use native.Mathlib.Omega.{arith}
 use lib.ListN.{get_or}
 use Rattle.rules.specs.Tables.{blank_slot}
 use Rattle.rules.specs.Pairs.{items_agree}
-use Rattle.rules.proofs.Basics.{first_here, first_nowhere}
 use Rattle.pairs.proofs.first_unlike.Given as goal
 
 abbrev pub invariant-loop-i : goal.invariant-loop-i

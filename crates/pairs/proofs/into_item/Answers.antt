@@ -1,6 +1,5 @@
 -- `pairs::into_item` meets its contract, by the items' variants.
 -- Assumes nothing.
-use borrow.Author.Rules.{rules}
 use mathlib.Core.Path.{refl}
 use Rattle.pairs.proofs.Steps.{sort-leads_nowhere}
 use Rattle.pairs.proofs.into_item.Goals as goal

@@ -1,6 +1,5 @@
 -- `pairs::items_agree` meets its contract, by the left item's variant.
 -- Assumes nothing.
-use borrow.Author.Rules.{rules}
 use Rattle.pairs.proofs.items_agree.Goals as goal
 
 pub returns-in-OfSort : goal.returns-in-OfSort

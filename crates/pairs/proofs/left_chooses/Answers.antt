@@ -1,6 +1,5 @@
 -- `pairs::left_chooses` meets its contract, kind by kind.
 -- Assumes nothing.
-use borrow.Author.Rules.{rules}
 use mathlib.Core.Bool.{Bool, true, false}
 use mathlib.Core.Path.{sym, ap}
 use Rattle.rules.specs.Pairs.{by_chooser}

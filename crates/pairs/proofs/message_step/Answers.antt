@@ -1,6 +1,5 @@
 -- `pairs::message_step` meets its contract: an item, or the continuation, or nowhere.
 -- Assumes nothing.
-use borrow.Author.Rules.{rules}
 use mathlib.Core.Path.{sym, ◌∙◌}
 use native.Mathlib.Omega.{arith}
 use Rattle.pairs.proofs.Steps.{step_to_item, step_to_continuation, no-message_step}

@@ -1,6 +1,5 @@
 -- `pairs::sort_agrees` meets its contract, by the item's variant.
 -- Assumes nothing.
-use borrow.Author.Rules.{rules}
 use mathlib.Core.Path.{refl}
 use Rattle.pairs.proofs.sort_agrees.Goals as goal
 

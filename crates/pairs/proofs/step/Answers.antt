@@ -1,6 +1,5 @@
 -- `pairs::step` meets its contract, by the left node's kind.
 -- Assumes nothing.
-use borrow.Author.Rules.{rules}
 use Rattle.pairs.proofs.Steps.{step_of_kind, step_received, step_sent, step-left_chooses, step_right_chooses}
 use Rattle.pairs.proofs.step.Goals as goal
 

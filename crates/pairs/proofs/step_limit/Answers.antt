@@ -1,6 +1,5 @@
 -- `pairs::step_limit` meets its contract, by the left node's kind.
 -- Assumes nothing.
-use borrow.Author.Rules.{rules}
 use mathlib.Core.Path.{sym, ◌∙◌}
 use Rattle.pairs.proofs.Steps.{message_steps_below, left_steps_below, right_steps_below}
 use Rattle.pairs.proofs.step_limit.Goals as goal

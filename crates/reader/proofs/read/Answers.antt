@@ -2,7 +2,6 @@
 -- Assumes nothing.
 use Rattle.rules.proofs.Reached.{refuses_reads}
 use Rattle.reader.proofs.Looping.{text_past, text_refuses, too_long}
-use borrow.Author.Rules.{rules}
 use Rattle.reader.proofs.read.Goals as goal
 
 pub returns-then-text-gt-TEXT_MOST : goal.returns-then-text-gt-TEXT_MOST

@@ -7,7 +7,6 @@ use Rattle.names.proofs.Named.{named_undefined, named_followable, named_round, n
 use Rattle.names.proofs.Leading.{use_inside, definition_inside}
 use Rattle.table_maker.proofs.Rows.{table_ok}
 use Rattle.table_maker.proofs.FromText.{table_made}
-use borrow.Author.Rules.{rules}
 use Rattle.reader.proofs.resolve.Goals as goal
 
 pub overflow_cast-uses : goal.overflow_cast-uses

@@ -1,6 +1,5 @@
 -- `replace::conclude` meets its contract: the search's end is settled as declared.
 -- Assumes nothing.
-use borrow.Author.Rules.{rules}
 use native.Mathlib.Omega.{arith}
 use Rattle.search.proofs.Queues.{queue_fits}
 use Rattle.replace.proofs.Verdicts.{concluded_yes, concluded_no}

@@ -1,6 +1,5 @@
 -- `replace::decide` meets its contract: the search and the answer to its end, in the areas' first parts.
 -- Assumes nothing.
-use borrow.Author.Rules.{rules}
 use native.Mathlib.Omega.{arith}
 use mathlib.Core.Path.{refl, sym, ◌∙◌}
 use Prim.Native.Nat.{◌+◌}

@@ -1,11 +1,7 @@
 -- `replace::expand` meets its contract: the steps below `s` were taken.
 -- Assumes nothing.
-use borrow.Author.Rules.{rules}
 use native.Mathlib.Omega.{arith}
-use mathlib.Core.Path.{◌≡◌, refl, sym, ◌∙◌}
-use lib.ListN.{length}
-use Prim.Native.Nat.{◌-◌, ◌≤◌}
-use Rattle.replace.specs.Taking.{StepsTaken}
+use mathlib.Core.Path.{refl, sym, ◌∙◌}
 use Rattle.replace.proofs.Expanding.{steps_none, steps_more, steps_all, ready_after}
 use Rattle.replace.proofs.expand.Goals as goal
 

@@ -1,12 +1,9 @@
 -- `replace::expand` meets its contract: the steps below `s` were taken.
 -- Assumes nothing.
-use borrow.Author.Rules.{rules}
-use native.Mathlib.Omega.{arith}
-use mathlib.Core.Path.{◌≡◌, refl, sym, ◌∙◌}
+use mathlib.Core.Path.{◌≡◌}
 use lib.ListN.{length}
 use Prim.Native.Nat.{◌-◌, ◌≤◌}
 use Rattle.replace.specs.Taking.{StepsTaken}
-use Rattle.replace.proofs.Expanding.{steps_none, steps_more, steps_all, ready_after}
 use Rattle.replace.proofs.expand.Given as goal
 
 abbrev pub invariant-loop-s : goal.invariant-loop-s

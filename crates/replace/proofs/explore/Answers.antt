@@ -1,17 +1,12 @@
 -- `replace::explore` meets its contract: at each entry the search stands there, with the entries before it expanded.
 -- Assumes nothing.
-use borrow.Author.Rules.{rules}
 use native.Mathlib.Omega.{arith}
 use mathlib.Core.Path.{refl, sym, ◌∙◌}
-use Prim.Native.Nat.{◌-◌}
-use borrow.Author.Tests.{not-true, not-false}
-use Rattle.rules.specs.Replies.{pair_count}
 use Rattle.rules.proofs.Formed.{formed}
 use Rattle.rules.proofs.Pairs.{fits_nothing, fits_not}
 use Rattle.rules.proofs.Runs.{starts_within}
 use Rattle.replace.proofs.Longer.{twice_scratch}
 use Rattle.replace.proofs.Verdicts.{begin_asks, begun_state}
-use Rattle.replace.specs.State.{State}
 use Rattle.replace.proofs.States.{entry_read, entry_room, entry_inside, entry_ready, entry_nodes, entry_expanded, entry_wrong, ended_all}
 use Rattle.replace.proofs.explore.Goals as goal
 
@@ -108,18 +103,18 @@ take_nodes-taken-requires c = (
 pub shape_of-marks-then-not-is_nothing : goal.shape_of-marks-then-not-is_nothing
 shape_of-marks-then-not-is_nothing c =
     (entry_wrong _ _ _ _ (formed c.requires.0) (formed c.requires.1) c.loop-at.invariant c.loop-at-test.true c.wide-place.ensures c.take_nodes-taken.ensures
-    (fits_not _ (sym c.is_nothing.ensures ∙ not-true _ c.if-not-is_nothing.true-raw))).state.queue.marks_long ∙ sym c.requires.2
+    (fits_not _ (sym c.is_nothing.ensures ∙ c.if-not-is_nothing.true))).state.queue.marks_long ∙ sym c.requires.2
 
 pub shape_of-scratch-then-not-is_nothing : goal.shape_of-scratch-then-not-is_nothing
 shape_of-scratch-then-not-is_nothing c =
     (entry_wrong _ _ _ _ (formed c.requires.0) (formed c.requires.1) c.loop-at.invariant c.loop-at-test.true c.wide-place.ensures c.take_nodes-taken.ensures
-    (fits_not _ (sym c.is_nothing.ensures ∙ not-true _ c.if-not-is_nothing.true-raw))).state.queue.scratch_long ∙ twice_scratch
+    (fits_not _ (sym c.is_nothing.ensures ∙ c.if-not-is_nothing.true))).state.queue.scratch_long ∙ twice_scratch
     c.args.new c.args.old refl ∙ sym c.requires.3
 
 pub returns-then-not-is_nothing : goal.returns-then-not-is_nothing
 returns-then-not-is_nothing c =
     entry_wrong _ _ _ _ (formed c.requires.0) (formed c.requires.1) c.loop-at.invariant c.loop-at-test.true c.wide-place.ensures c.take_nodes-taken.ensures
-    (fits_not _ (sym c.is_nothing.ensures ∙ not-true _ c.if-not-is_nothing.true-raw))
+    (fits_not _ (sym c.is_nothing.ensures ∙ c.if-not-is_nothing.true))
 
 pub overflow_add-at : goal.overflow_add-at
 overflow_add-at c =
@@ -132,7 +127,7 @@ loop-at-smaller c =
 pub loop-at-preserved : goal.loop-at-preserved
 loop-at-preserved c =
     entry_expanded _ _ _ _ (formed c.requires.0) (formed c.requires.1) c.loop-at.invariant c.loop-at-test.true c.wide-place.ensures c.take_nodes-taken.ensures
-    (fits_nothing _ (sym c.is_nothing.ensures ∙ not-false _ c.if-not-is_nothing.false-raw))
+    (fits_nothing _ (sym c.is_nothing.ensures ∙ c.if-not-is_nothing.false))
 
 pub shape_of-marks : goal.shape_of-marks
 shape_of-marks c =

@@ -1,6 +1,5 @@
 -- `replace::found` meets its contract, field by field.
 -- Assumes nothing.
-use borrow.Author.Rules.{rules}
 use Rattle.replace.proofs.Verdicts.{found_made}
 use Rattle.replace.proofs.found.Goals as goal
 

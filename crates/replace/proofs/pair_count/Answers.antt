@@ -1,6 +1,5 @@
 -- `replace::pair_count` meets its contract: the pairs of two tables are few.
 -- Assumes nothing.
-use borrow.Author.Rules.{rules}
 use native.Mathlib.Omega.{arith}
 use Rattle.rules.proofs.Places.{pairs_few}
 use Rattle.replace.proofs.pair_count.Goals as goal

@@ -1,6 +1,5 @@
 -- `replace::take_nodes` meets its contract, in turn 0 and in turn 1.
 -- Assumes nothing.
-use borrow.Author.Rules.{rules}
 use Rattle.replace.proofs.ByTurn.{formed_straight, takes_straight, formed_turned, takes_turned}
 use Rattle.replace.proofs.take_nodes.Goals as goal
 

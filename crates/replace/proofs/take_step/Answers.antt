@@ -1,6 +1,5 @@
 -- `replace::take_step` meets its contract: nothing is written where the step leads nowhere, else its place is visited.
 -- Assumes nothing.
-use borrow.Author.Rules.{rules}
 use native.Mathlib.Omega.{arith}
 use Rattle.replace.proofs.Stepping.{step-nowhere, step_landing, step-onto, lands_below}
 use Rattle.replace.proofs.take_step.Goals as goal

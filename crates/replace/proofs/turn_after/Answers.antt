@@ -1,6 +1,5 @@
 -- `replace::turn_after` meets its contract: of 0 and 1 the other is the one less.
 -- Assumes nothing.
-use borrow.Author.Rules.{rules}
 use Rattle.replace.proofs.Stepping.{turn_turned, turn_stays}
 use Rattle.replace.proofs.turn_after.Goals as goal
 

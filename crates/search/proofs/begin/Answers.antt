@@ -1,6 +1,5 @@
 -- `search::begin` meets its contract: the areas are cleared, and then the start is marked and queued.
 -- Assumes nothing.
-use borrow.Author.Rules.{rules}
 use Rattle.search.proofs.Queues.{begun-made}
 use Rattle.search.proofs.begin.Goals as goal
 

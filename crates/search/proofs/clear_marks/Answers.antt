@@ -1,11 +1,8 @@
 -- `search::clear_marks` meets its contract: the first `at` places are 0, and the others stand.
 -- Assumes nothing.
-use borrow.Author.Rules.{rules}
 use native.Mathlib.Omega.{arith}
-use Prim.Native.Nat.{◌-◌}
-use lib.ListN.{length}
 use mathlib.Core.Path.{refl}
-use Rattle.search.proofs.Loops.{Changed, zeroed, change_begin, change_turn, clear_end}
+use Rattle.search.proofs.Loops.{zeroed, change_begin, change_turn, clear_end}
 use Rattle.search.proofs.clear_marks.Goals as goal
 
 pub loop-at-init : goal.loop-at-init

@@ -1,11 +1,8 @@
 -- `search::clear_numbers` meets its contract: at turn i the first i places are 0, and the others stand.
 -- Assumes nothing.
-use borrow.Author.Rules.{rules}
-use native.Mathlib.Omega.{arith}
 use Prim.Native.Nat.{◌-◌}
 use lib.ListN.{length}
-use mathlib.Core.Path.{refl}
-use Rattle.search.proofs.Loops.{Changed, zeroed, change_begin, change_turn, clear_end}
+use Rattle.search.proofs.Loops.{Changed, zeroed}
 use Rattle.search.proofs.clear_numbers.Given as goal
 
 abbrev pub invariant-loop-i : goal.invariant-loop-i

@@ -2,7 +2,7 @@
 -- Assumes nothing.
 use borrow.Author.Rules.{rules}
 use native.Mathlib.Omega.{arith}
-use Rattle.search.proofs.Loops.{Walked, entry_fits, parent_before, walk-begin, walk_turn, walk_end}
+use Rattle.search.proofs.Loops.{entry_fits, parent_before, walk-begin, walk_turn, walk_end}
 use Rattle.search.proofs.depth.Goals as goal
 
 pub loop-i-init : goal.loop-i-init

@@ -1,6 +1,5 @@
 -- `search::leave_run` meets its contract: what its four calls ensure, of one run.
 -- Assumes nothing.
-use borrow.Author.Rules.{rules}
 use Rattle.search.proofs.Loops.{run_left}
 use Rattle.search.proofs.leave_run.Goals as goal
 

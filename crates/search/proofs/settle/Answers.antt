@@ -1,11 +1,8 @@
 -- `search::settle` meets its contract: at turn i the first i marks are left as they shall be, and the others stand.
 -- Assumes nothing.
-use borrow.Author.Rules.{rules}
 use native.Mathlib.Omega.{arith}
-use Prim.Native.Nat.{◌-◌}
-use lib.ListN.{length}
 use Rattle.search.specs.Queue.{settled}
-use Rattle.search.proofs.Loops.{Changed, change_begin, change_turn, change_end}
+use Rattle.search.proofs.Loops.{change_begin, change_turn, change_end}
 use Rattle.search.proofs.settle.Goals as goal
 
 pub loop-i-init : goal.loop-i-init

@@ -1,11 +1,9 @@
 -- `search::settle` meets its contract: at turn i the first i marks are left as they shall be, and the others stand.
 -- Assumes nothing.
-use borrow.Author.Rules.{rules}
-use native.Mathlib.Omega.{arith}
 use Prim.Native.Nat.{◌-◌}
 use lib.ListN.{length}
 use Rattle.search.specs.Queue.{settled}
-use Rattle.search.proofs.Loops.{Changed, change_begin, change_turn, change_end}
+use Rattle.search.proofs.Loops.{Changed}
 use Rattle.search.proofs.settle.Given as goal
 
 abbrev pub invariant-loop-i : goal.invariant-loop-i

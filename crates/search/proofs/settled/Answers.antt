@@ -1,6 +1,5 @@
 -- `search::settled` meets its contract.
 -- Assumes nothing.
-use borrow.Author.Rules.{rules}
 use Rattle.search.proofs.Marks.{settled_one}
 use Rattle.search.proofs.settled.Goals as goal
 

@@ -3,7 +3,7 @@
 use borrow.Author.Rules.{rules}
 use native.Mathlib.Omega.{arith}
 use mathlib.Core.Path.{◌∙◌}
-use Rattle.search.proofs.Loops.{Written, entry_fits, write_begin, write_turn, write_end}
+use Rattle.search.proofs.Loops.{entry_fits, write_begin, write_turn, write_end}
 use Rattle.search.proofs.write_path.Goals as goal
 
 pub loop-j-init : goal.loop-j-init

@@ -1,9 +1,6 @@
 -- `search::write_path` meets its contract: what is written from j on, behind the run to i, is the run to `at` and what stands beyond it.
 -- Assumes nothing.
-use borrow.Author.Rules.{rules}
-use native.Mathlib.Omega.{arith}
-use mathlib.Core.Path.{◌∙◌}
-use Rattle.search.proofs.Loops.{Written, entry_fits, write_begin, write_turn, write_end}
+use Rattle.search.proofs.Loops.{Written}
 use Rattle.search.proofs.write_path.Given as goal
 
 abbrev pub invariant-loop-j : goal.invariant-loop-j

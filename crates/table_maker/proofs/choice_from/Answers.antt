@@ -1,7 +1,6 @@
 -- `table_maker::choice_from` meets its contract.
 -- Assumes nothing.
 use Rattle.table_maker.specs.Making.{choice_from}
-use borrow.Author.Rules.{rules}
 use Rattle.table_maker.proofs.choice_from.Goals as goal
 
 pub returns : goal.returns

@@ -1,11 +1,8 @@
 -- `table_maker::items_from` meets its contract: the items below `i` are made.
 -- Assumes nothing.
-use borrow.Author.Rules.{rules}
 use mathlib.Core.Path.{◌≡◌}
 use Prim.Native.Nat.{◌-◌, ◌≤◌}
-use native.Mathlib.Omega.{arith}
 use Rattle.table_maker.specs.Making.{items_from}
-use Rattle.rules.proofs.Filling.{fills_none, fills_one, fills_all}
 use Rattle.table_maker.proofs.items_from.Given as goal
 
 abbrev pub invariant-loop-i : goal.invariant-loop-i

@@ -2,7 +2,6 @@
 -- Assumes nothing.
 use mathlib.Core.Path.{refl}
 use Rattle.table_maker.specs.Making.{label_from}
-use borrow.Author.Rules.{rules}
 use Rattle.table_maker.proofs.label_from.Goals as goal
 
 pub returns : goal.returns

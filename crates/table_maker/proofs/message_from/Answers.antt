@@ -1,7 +1,6 @@
 -- `table_maker::message_from` meets its contract.
 -- Assumes nothing.
 use Rattle.table_maker.specs.Making.{message_from}
-use borrow.Author.Rules.{rules}
 use Rattle.table_maker.proofs.message_from.Goals as goal
 
 pub returns : goal.returns

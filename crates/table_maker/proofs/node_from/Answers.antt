@@ -3,7 +3,6 @@
 use borrow.Author.Tests.{eq-eqb, ne_eqb, lt-ltb, le-ltb}
 use native.Mathlib.Omega.{arith}
 use Rattle.table_maker.specs.Making.{node_from}
-use borrow.Author.Rules.{rules}
 use Rattle.table_maker.proofs.node_from.Goals as goal
 
 pub returns-then-kind-eq0 : goal.returns-then-kind-eq0

@@ -5,7 +5,6 @@ use native.Mathlib.Omega.{arith}
 use Prim.Native.Nat.{◌-◌}
 use Rattle.flat.specs.Flat.{a_use}
 use Rattle.table_maker.specs.Making.{node_of}
-use borrow.Author.Rules.{rules}
 use Rattle.table_maker.proofs.node_of.Goals as goal
 
 pub returns-then-link-lt-A_USE : goal.returns-then-link-lt-A_USE

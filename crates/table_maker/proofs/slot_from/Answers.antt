@@ -2,7 +2,6 @@
 -- Assumes nothing.
 use borrow.Author.Tests.{lt-ltb, le-ltb}
 use Rattle.table_maker.specs.Making.{slot_from}
-use borrow.Author.Rules.{rules}
 use Rattle.table_maker.proofs.slot_from.Goals as goal
 
 pub returns-then-k-lt-A_SESSION : goal.returns-then-k-lt-A_SESSION

@@ -1,16 +1,12 @@
 -- `table_maker::table_from` meets its contract: the nodes below `k` are made.
 -- Assumes nothing.
-use borrow.Author.Rules.{rules}
 use mathlib.Core.List.{List}
-use mathlib.Core.Path.{◌≡◌, ap, ◌∙◌}
-use Prim.Native.Nat.{◌-◌, ◌≤◌}
+use mathlib.Core.Path.{ap, ◌∙◌}
 use native.Mathlib.Omega.{arith}
 use lib.ListN.{get_or, replicate}
-use Rattle.rules.specs.Basics.{listed, fill}
 use Rattle.rules.specs.Numbers.{table_nodes_most}
-use Rattle.rules.specs.Tables.{blank_node}
 use Rattle.table.specs.declared.Node.{Node}
-use Rattle.table_maker.specs.Making.{node_from, table_from}
+use Rattle.table_maker.specs.Making.{table_from}
 use Rattle.rules.proofs.Filling.{fills_none, fills_one, fills_all}
 use Rattle.table_maker.proofs.table_from.Goals as goal
 

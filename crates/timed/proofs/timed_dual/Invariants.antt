@@ -1,6 +1,5 @@
 -- `timed::timed_dual` is safe and ends: the times that are left fall.
 -- Assumes nothing.
-use borrow.Author.Rules.{rules}
 use Prim.Native.Nat.{◌-◌}
 use Rattle.timed.proofs.timed_dual.Given as goal
 

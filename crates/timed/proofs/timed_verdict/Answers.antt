@@ -1,9 +1,6 @@
 -- `timed::timed_verdict` is safe and ends: the times that are left fall, and the areas stay as long as they were.
 -- Assumes nothing.
-use borrow.Author.Rules.{rules}
-use mathlib.Core.Path.{◌≡◌, refl, ◌∙◌}
-use Prim.Native.Nat.{◌-◌}
-use lib.ListN.{length}
+use mathlib.Core.Path.{refl, ◌∙◌}
 use Rattle.timed.proofs.timed_verdict.Goals as goal
 
 pub loop-i-init : goal.loop-i-init

@@ -1,7 +1,6 @@
 -- `timed::timed_verdict` is safe and ends: the times that are left fall, and the areas stay as long as they were.
 -- Assumes nothing.
-use borrow.Author.Rules.{rules}
-use mathlib.Core.Path.{◌≡◌, refl, ◌∙◌}
+use mathlib.Core.Path.{◌≡◌}
 use Prim.Native.Nat.{◌-◌}
 use lib.ListN.{length}
 use Rattle.timed.proofs.timed_verdict.Given as goal

@@ -1,10 +1,8 @@
 -- The cycle of readers meets its contracts: where each goes on within the text and the areas (Safe), and what it tells (Told, and the files of
 -- the laws that it cites). The bytes left of the text fall at every call.
 -- Assumes nothing.
-use borrow.Author.Rules.{rules}
 use mathlib.Core.Path.{refl}
 use native.Mathlib.Omega.{arith}
-use lib.ListN.{length}
 use Rattle.rules.specs.Notation.{into, out}
 use Rattle.type_reader.specs.Answers.{refused}
 use Rattle.type_reader.proofs.Begins.{type_name, type_end, type_none}
@@ -13,7 +11,6 @@ use Rattle.type_reader.proofs.Labelled.{fresh_label}
 use Rattle.type_reader.proofs.LabelTurns as labels
 use Rattle.type_reader.proofs.Safe.{take_ready, token_long, onward_taken, signed_onward, opened_onward, begun_ready, sound_past, sound_refused, sound_on, sound_used, sound_ended, sound_step, sound_stored, sound_row, sound_number, item_is, item_few, item_known, label_ready, label_inside, label_places}
 use Rattle.type_reader.proofs.Told.{message_told₁, message_told₂, message_told₃, message_told₄, message_told₅, message_told₆, choice_told₁, choice_told₂, choice_told₃, choice_told₄, item_told₁, item_told₂, item_told₃, item_told₄, label_told₁, label_told₂, label_told₃, label_told₄}
-use Prim.Native.Nat.{ℕ, ◌<◌, ◌+◌, ◌-◌, ◌*◌}
 use Rattle.type_reader.proofs.+types.Goals as goal
 
 pub read_choice-begin_node-r1-requires : goal.read_choice-begin_node-r1-requires

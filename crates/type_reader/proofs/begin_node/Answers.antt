@@ -2,7 +2,6 @@
 -- Assumes nothing.
 use native.Mathlib.Omega.{arith}
 use Rattle.type_reader.specs.Leaves.{begun, not_begun}
-use borrow.Author.Rules.{rules}
 use Rattle.type_reader.proofs.begin_node.Goals as goal
 
 pub returns-then-n-ge-TEXT_NODES_MOST : goal.returns-then-n-ge-TEXT_NODES_MOST

@@ -3,7 +3,6 @@
 use borrow.Author.Tests.{lt-ltb, le-ltb}
 use mathlib.Core.Path.{refl}
 use Rattle.type_reader.specs.Leaves.{begins_item}
-use borrow.Author.Rules.{rules}
 use Rattle.type_reader.proofs.begins_item.Goals as goal
 
 pub returns-then-k-lt-RESERVED : goal.returns-then-k-lt-RESERVED

@@ -2,7 +2,6 @@
 -- Assumes nothing.
 use native.Mathlib.Omega.{arith}
 use Rattle.type_reader.specs.Leaves.{opened, too_deep, not_opened}
-use borrow.Author.Rules.{rules}
 use Rattle.type_reader.proofs.bracket.Goals as goal
 
 pub returns-then-t-b : goal.returns-then-t-b

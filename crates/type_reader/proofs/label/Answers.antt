@@ -8,7 +8,6 @@ use lib.ListN.{length}
 use Rattle.flat.specs.Flat.{room, list_from}
 use Rattle.type_reader.specs.Leaves.{no_label, long_label, label_too_many, label_twice, labelled}
 use Rattle.type_reader.proofs.Labelling.{row_found, rows_other}
-use borrow.Author.Rules.{rules}
 use Rattle.type_reader.proofs.label.Goals as goal
 
 pub returns-then-t-ne-WORD : goal.returns-then-t-ne-WORD

@@ -2,7 +2,6 @@
 -- Assumes nothing.
 use native.Mathlib.Omega.{arith}
 use Rattle.type_reader.proofs.Ending.{begun-past, end_refused, end_past}
-use borrow.Author.Rules.{rules}
 use Rattle.type_reader.proofs.read_end.Goals as goal
 
 pub returns-in_default : goal.returns-in_default

@@ -1,7 +1,6 @@
 -- `type_reader::sign` meets its contract.
 -- Assumes nothing.
 use Rattle.type_reader.specs.Leaves.{signed, not_signed}
-use borrow.Author.Rules.{rules}
 use Rattle.type_reader.proofs.sign.Goals as goal
 
 pub returns-then-t-b : goal.returns-then-t-b

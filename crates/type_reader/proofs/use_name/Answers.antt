@@ -3,7 +3,6 @@
 use borrow.Author.Tests.{ltb-true, ltb-false}
 use mathlib.Core.Path.{refl, sym, ◌∙◌}
 use Rattle.type_reader.specs.Leaves.{used_name, long_name}
-use borrow.Author.Rules.{rules}
 use Rattle.type_reader.proofs.use_name.Goals as goal
 
 pub returns-then-too_long : goal.returns-then-too_long

@@ -1,7 +1,5 @@
 -- `words::is_word` meets its contract: its tests are the facts of a word.
 -- Assumes nothing.
-use borrow.Author.Rules.{rules}
-use borrow.Author.Tests.{not-true, not-false}
 use mathlib.Core.Bool.{false≢true}
 use mathlib.Core.List.{List}
 use mathlib.Core.Path.{◌≡◌, sym, ap, ◌∙◌}
@@ -26,7 +24,7 @@ returns-then-not-is_letter c =
     sym
     (Bool-eq-false
     (λ e.
-    false≢true (sym (sym c.is_letter.ensures ∙ not-true _ c.if-not-is_letter.true-raw) ∙ (word_facts e).begins)))
+    false≢true (sym (sym c.is_letter.ensures ∙ c.if-not-is_letter.true) ∙ (word_facts e).begins)))
 
 pub returns : goal.returns
 returns c =
@@ -39,7 +37,7 @@ returns c =
     (record {
       some_byte = omega arith;
       few_bytes = omega arith;
-      begins = sym c.is_letter.ensures ∙ not-false _ c.if-not-is_letter.false-raw;
+      begins = sym c.is_letter.ensures ∙ c.if-not-is_letter.false;
       goes_on = sym (ap word_bytes rest) ∙ e;
     }))
     (λ e. ap word_bytes rest ∙ (word_facts e).goes_on)

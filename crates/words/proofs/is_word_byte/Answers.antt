@@ -1,6 +1,5 @@
 -- `words::is_word_byte` meets its contract: a letter, a digit, or an underscore.
 -- Assumes nothing.
-use borrow.Author.Rules.{rules}
 use borrow.Author.Tests.{le-leb, lt-leb, ne_eqb}
 use mathlib.Core.Path.{sym, ◌∙◌}
 use native.Mathlib.Omega.{arith}

@@ -1,6 +1,5 @@
 -- `words::may_name` meets its contract: a reserved word may name nothing, and of any other it is asked whether it is a word.
 -- Assumes nothing.
-use borrow.Author.Rules.{rules}
 use mathlib.Core.Path.{sym, ◌∙◌}
 use native.Mathlib.Omega.{arith}
 use Rattle.rules.proofs.Words.{may_name-reserved, may_name_word}

@@ -1,14 +1,9 @@
 -- `words::reserved_position` meets its contract: w is none of the words in the rows below `k`.
 -- Assumes nothing.
 use borrow.Author.Count.{below_more}
-use mathlib.Core.Bool.{false}
-use mathlib.Core.List.{[]}
-use mathlib.Core.Path.{◌≡◌, sym, ◌∙◌}
-use Prim.Native.Nat.{ℕ, ◌≤◌, ◌<◌, ◌-◌}
+use mathlib.Core.Path.{sym, ◌∙◌}
 use native.Mathlib.Omega.{arith}
-use lib.ListN.{length, get_or}
-use Rattle.rules.specs.Basics.{same}
-use Rattle.rules.specs.Words.{reserved_words, reserved_position}
+use Rattle.rules.specs.Words.{reserved_position}
 use Rattle.rules.proofs.Basics.{first_here, first_nowhere}
 use Rattle.words.proofs.reserved_position.Goals as goal
 

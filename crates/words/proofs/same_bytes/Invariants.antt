@@ -1,12 +1,8 @@
 -- `words::same_bytes` meets its contract: the bytes below `i` are the same in both.
 -- Assumes nothing.
-use borrow.Author.Count.{below_more}
-use borrow.Author.Rules.{rules}
-use mathlib.Core.Path.{◌≡◌, sym}
+use mathlib.Core.Path.{◌≡◌}
 use Prim.Native.Nat.{ℕ, ◌≤◌, ◌<◌, ◌-◌}
-use native.Mathlib.Omega.{arith}
 use lib.ListN.{length, get_or}
-use Rattle.rules.proofs.Basics.{same_lengths, same_differ, same_all}
 use Rattle.words.proofs.same_bytes.Given as goal
 
 abbrev pub invariant-loop-i : goal.invariant-loop-i

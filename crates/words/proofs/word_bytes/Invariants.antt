@@ -1,15 +1,10 @@
 -- `words::word_bytes` meets its contract: the bytes below `i` may all stand in a word.
 -- Assumes nothing.
-use borrow.Author.Count.{below_more}
-use borrow.Author.Rules.{rules}
-use borrow.Author.Tests.{not-true, not-false}
 use mathlib.Core.Bool.{true}
-use mathlib.Core.Path.{◌≡◌, sym, ◌∙◌}
+use mathlib.Core.Path.{◌≡◌}
 use Prim.Native.Nat.{ℕ, ◌≤◌, ◌<◌, ◌-◌}
-use native.Mathlib.Omega.{arith}
 use lib.ListN.{length, get_or}
 use Rattle.rules.specs.Words.{word_byte}
-use Rattle.rules.proofs.Words.{word_bytes_false, word_bytes_all}
 use Rattle.words.proofs.word_bytes.Given as goal
 
 abbrev pub invariant-loop-i : goal.invariant-loop-i

@@ -1,14 +1,10 @@
 -- `Cursor::skip` meets its contract: from `at` on blanks go as far as from where the cursor stands.
 -- Assumes nothing.
-use borrow.Author.Rules.{rules}
-use borrow.Author.Tests.{not-true, not-false}
-use mathlib.Core.Path.{◌≡◌, refl, sym, ◌∙◌}
+use mathlib.Core.Path.{◌≡◌}
 use Prim.Native.Nat.{◌-◌}
-use native.Mathlib.Omega.{arith}
 use lib.ListN.{length}
 use Rattle.rules.specs.Words.{blank}
-use Rattle.rules.proofs.TokensBehind.{past, past_end, past_stop, past_on}
-use Rattle.cursor.proofs.Taking.{moved_to}
+use Rattle.rules.proofs.TokensBehind.{past}
 use Rattle.cursor.proofs.Cursor.skip.Given as goal
 
 abbrev pub invariant-loop-at : goal.invariant-loop-at

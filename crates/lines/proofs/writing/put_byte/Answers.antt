@@ -1,6 +1,5 @@
 -- `lines::writing::put_byte` meets its contract: one byte is set.
 -- Assumes nothing.
-use borrow.Author.Rules.{rules}
 use Rattle.lines.proofs.Adding.{adds_byte}
 use Rattle.lines.proofs.writing.put_byte.Goals as goal
 

@@ -1,6 +1,5 @@
 -- `lines::writing::put_field` meets its contract: a space, and the number.
 -- Assumes nothing.
-use borrow.Author.Rules.{rules}
 use Prim.Native.Nat.{suc}
 use native.Mathlib.Omega.{arith}
 use Rattle.lines.proofs.Adding.{adds_then, adds_as, room_next, field_longer, field_is}

@@ -1,6 +1,5 @@
 -- `lines::writing::put_found` meets its contract: five fields, one behind the other.
 -- Assumes nothing.
-use borrow.Author.Rules.{rules}
 use mathlib.Core.List.{[]}
 use native.Mathlib.Omega.{arith}
 use Rattle.lines.specs.Adding.{found_fields}

@@ -1,6 +1,5 @@
 -- `lines::writing::put_no` meets its contract: the word, what was found, the steps, the line feed.
 -- Assumes nothing.
-use borrow.Author.Rules.{rules}
 use mathlib.Core.List.{◌++◌}
 use lib.ListN.{take}
 use Rattle.rules.specs.Basics.{bytes}

@@ -1,6 +1,5 @@
 -- `lines::writing::put_refused` meets its contract: the word, three fields, the line feed.
 -- Assumes nothing.
-use borrow.Author.Rules.{rules}
 use mathlib.Core.List.{[], ◌∷◌}
 use Rattle.rules.specs.Basics.{bytes}
 use Rattle.lines.proofs.Adding.{no-fields, adds_field, adds_line}

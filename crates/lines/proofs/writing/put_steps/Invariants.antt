@@ -1,13 +1,9 @@
 -- `lines::writing::put_steps` meets its contract: behind each turn the steps so far are put.
 -- Assumes nothing.
-use borrow.Author.Rules.{rules}
-use mathlib.Core.Path.{◌≡◌, refl}
 use Prim.Native.Nat.{◌-◌, ◌≤◌}
-use native.Mathlib.Omega.{arith}
 use lib.ListN.{take}
 use Rattle.rules.specs.Line.{fields}
 use Rattle.lines.specs.Adding.{Adds}
-use Rattle.lines.proofs.Adding.{no-fields, adds_length, adds_step, adds_as, room_step}
 use Rattle.lines.proofs.writing.put_steps.Given as goal
 
 abbrev pub invariant-loop-i : goal.invariant-loop-i

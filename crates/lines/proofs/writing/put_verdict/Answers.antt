@@ -1,6 +1,5 @@
 -- `lines::writing::put_verdict` meets its contract: by the verdict.
 -- Assumes nothing.
-use borrow.Author.Rules.{rules}
 use Rattle.lines.proofs.Adding.{adds_none}
 use Rattle.lines.proofs.writing.put_verdict.Goals as goal
 

@@ -1,6 +1,5 @@
 -- `lines::writing::put_yes` meets its contract: the word, the count, the line feed.
 -- Assumes nothing.
-use borrow.Author.Rules.{rules}
 use mathlib.Core.List.{[], ◌∷◌}
 use Rattle.rules.specs.Basics.{bytes}
 use Rattle.lines.proofs.Adding.{no-fields, adds_field, adds_line}

@@ -5,7 +5,6 @@ use mathlib.Core.Path.{sym, ◌∙◌}
 use native.Mathlib.Omega.{arith}
 use Rattle.reader.specs.Defining.{no_name, long_name, name_too_many, name_twice, new_name}
 use Rattle.reader.proofs.Naming.{name_found, names_other}
-use borrow.Author.Rules.{rules}
 use Rattle.reader.proofs.definitions.name.Goals as goal
 
 pub returns-then-t-ne-WORD : goal.returns-then-t-ne-WORD

@@ -5,7 +5,6 @@ use Rattle.type_reader.proofs.Safe.{take_ready, signed_onward, sound_past, label
 use Rattle.reader.proofs.Naming.{fresh_name}
 use Rattle.reader.proofs.Defined.{definition_told₁, definition_told₂, definition_told₃, definition_told₄}
 use Rattle.reader.proofs.Looping.{sound_refused, sound_signed, rows_stay}
-use borrow.Author.Rules.{rules}
 use Rattle.reader.proofs.definitions.read_definition.Goals as goal
 
 pub name-r1-requires : goal.name-r1-requires
