@@ -1,10 +1,6 @@
 -- In areas for the largest texts a line is always written, and it is the printed one of the input.
 -- Assumes nothing.
-use mathlib.Core.Bool.{Bool, true, false}
-use mathlib.Core.List.{List}
-use mathlib.Core.Path.{◌≡◌}
-use Prim.Native.Nat.{ℕ}
-use native.Mathlib.Omega.{arith}
+use Rattle.std.proofs.Common.{Bool, true, false, List, ◌≡◌, ℕ, arith}
 use Rattle.rules.specs.Numbers.{text_nodes_most, table_nodes_most}
 use Rattle.rules.specs.Line.{Question, may_replace, is_compatible, first_text, second_text}
 use Rattle.rules.specs.Writing.{LineAreas, Lengths, lengths, AllLong, WritesLine, PrintsInto}
@@ -31,5 +27,5 @@ module _ (b : Bool) {input before after : List ℕ} {r : ℕ} where
   pub asked_compatible : b ≡ true → PrintsInto is_compatible input before after r → PrintsInto (asked b) input before after r
   asked_compatible e P = rw e P
 
-  pub asked-may_replace : b ≡ false → PrintsInto may_replace input before after r → PrintsInto (asked b) input before after r
-  asked-may_replace e P = rw e P
+  pub asked_may_replace : b ≡ false → PrintsInto may_replace input before after r → PrintsInto (asked b) input before after r
+  asked_may_replace e P = rw e P
