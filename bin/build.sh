@@ -60,7 +60,7 @@ current() {
     as_built && was=$(head -n 2 "$record" 2>/dev/null) && now=$(origin) && [[ -n $now && $now == "$was" ]]
 }
 
-full() { fail "the disk of $root or of ${TMPDIR:-/tmp} is full: make room, of which a build takes up to TIMES GB, and ask again"; }
+full() { fail "the disk of $root or of ${TMPDIR:-/tmp} is full: make room, of which a build takes up to 1 GB, and ask again"; }
 
 # Waits until no other caller builds here. What is locked is the checkout's folder, and until this shell and all that it started have ended or
 # let it go.
