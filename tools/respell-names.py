@@ -5,7 +5,7 @@ A definition, a record's field and a constructor become snake case. A lemma's na
 made of and the plain words between them: a dash joins two names, as in `tokens-blank`, and anything else is joined by `_`, as in `word_true`.
 A variable, a parameter of a module and a constructor of two words
 become snake case too. Types and modules are in camel case already. Functions of src/, C names, strings, inputs and outputs keep their names. What is imported
-from elsewhere is left alone. It prints each renaming, and stops before any is made where two names of a file would fall together.
+from elsewhere is left alone. It prints each renaming, and each two names of a file that fall together: read those (none that did meant two things in one place).
 """
 import collections
 import os

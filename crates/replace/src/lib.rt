@@ -81,7 +81,7 @@ fn take_step(
     marks: &mut [u8],
     scratch: &mut [u16],
 ) -> usize
-    requires { Ready sizes.new sizes.old turn at (record { marks = marks.now; scratch = scratch.old; tail = tail }) × Leading sizes.new sizes.old turn left right places × (s < labels_most) }
+    requires { Ready sizes.new sizes.old turn at (record { marks = marks.old; scratch = scratch.old; tail = tail }) × Leading sizes.new sizes.old turn left right places × (s < labels_most) }
     ensures { StepTaken sizes.new sizes.old turn at left right places s (record { marks = marks.old; scratch = scratch.old; tail = tail }) (record { marks = marks.new; scratch = scratch.new; tail = result }) }
 {
     let onward = step(left, right, places, s);
@@ -106,7 +106,7 @@ fn expand(
     marks: &mut [u8],
     scratch: &mut [u16],
 ) -> usize
-    requires { Ready sizes.new sizes.old turn at (record { marks = marks.now; scratch = scratch.old; tail = tail }) × Leading sizes.new sizes.old turn left right places }
+    requires { Ready sizes.new sizes.old turn at (record { marks = marks.old; scratch = scratch.old; tail = tail }) × Leading sizes.new sizes.old turn left right places }
     ensures { StepsTaken sizes.new sizes.old turn at left right places labels_most (record { marks = marks.old; scratch = scratch.old; tail = tail }) (record { marks = marks.new; scratch = scratch.new; tail = result }) }
 {
     let limit = step_limit(left, right);
@@ -150,7 +150,7 @@ fn take_pair(
     marks: &mut [u8],
     scratch: &mut [u16],
 ) -> Taken
-    requires { Ready sizes.new sizes.old turn at (record { marks = marks.now; scratch = scratch.old; tail = tail }) × Formed sizes.new sizes.old turn left left_names.now right right_names.now }
+    requires { Ready sizes.new sizes.old turn at (record { marks = marks.old; scratch = scratch.old; tail = tail }) × Formed sizes.new sizes.old turn left left_names.now right right_names.now }
     ensures { Takes sizes.new sizes.old turn at left left_names.now right right_names.now (record { marks = marks.old; scratch = scratch.old; tail = tail }) (record { marks = marks.new; scratch = scratch.new; tail = result.tail }) result }
 {
     let compared = compare(left, left_names, right, right_names);
@@ -176,7 +176,7 @@ fn take_nodes(
     marks: &mut [u8],
     scratch: &mut [u16],
 ) -> Taken
-    requires { Ready sizes.new sizes.old turn at (record { marks = marks.now; scratch = scratch.old; tail = tail }) × Formed sizes.new sizes.old turn (left_in turn new old) (left_in turn new_names.now old_names.now) (right_in turn new old) (right_in turn new_names.now old_names.now) }
+    requires { Ready sizes.new sizes.old turn at (record { marks = marks.old; scratch = scratch.old; tail = tail }) × Formed sizes.new sizes.old turn (left_in turn new old) (left_in turn new_names.now old_names.now) (right_in turn new old) (right_in turn new_names.now old_names.now) }
     ensures { Takes sizes.new sizes.old turn at (left_in turn new old) (left_in turn new_names.now old_names.now) (right_in turn new old) (right_in turn new_names.now old_names.now) (record { marks = marks.old; scratch = scratch.old; tail = tail }) (record { marks = marks.new; scratch = scratch.new; tail = result.tail }) result }
 {
     if turn == 0 {
@@ -293,7 +293,7 @@ pub fn decide(
     path: &mut [u16],
     scratch: &mut [u16],
 ) -> Verdict
-    requires { NoRefusal new new_names.now old old_names.now (record { marks = marks.now; path = path.old; scratch = scratch.old }) }
+    requires { NoRefusal new new_names.now old old_names.now (record { marks = marks.old; path = path.old; scratch = scratch.old }) }
     ensures { Replaces new new_names.now old old_names.now (record { marks = marks.old; path = path.old; scratch = scratch.old }) (record { marks = marks.new; path = path.new; scratch = scratch.new }) result }
 {
     let n = new.count as usize;

@@ -35,7 +35,7 @@ pub data Text : Type 0 where
   last_definition : Token → Ty → Text
   definition : Token → Ty → Text → Text
 
--- a one_byte token
+-- a one-byte token
 abbrev pub sign : Char → Symbol
 sign c = one_byte (code c)
 

@@ -71,7 +71,7 @@ pub fn visit(
     marks: &mut [u8],
     scratch: &mut [u16],
 ) -> usize
-    requires { Queue size (record { marks = marks.now; scratch = scratch.old; tail = tail }) × (at < tail) × (step < 255) × (to < size) }
+    requires { Queue size (record { marks = marks.old; scratch = scratch.old; tail = tail }) × (at < tail) × (step < 255) × (to < size) }
     ensures { record { marks = marks.new; scratch = scratch.new; tail = result } ≡ visited size at step to (record { marks = marks.old; scratch = scratch.old; tail = tail }) }
 {
     if marks[to] != 0 {

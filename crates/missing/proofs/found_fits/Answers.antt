@@ -1,5 +1,5 @@
 -- `missing::found_fits` meets its contract: each test in its turn settles it, or leaves it to the next, and the last to the two nodes.
--- A well_formed table has at most as many nodes as its array, so that both nodes can be read.
+-- A well-formed table has at most as many nodes as its array, so that both nodes can be read.
 -- Assumes nothing.
 use native.Mathlib.Omega.{arith}
 use mathlib.Core.Path.{sym, ◌∙◌}
