@@ -220,7 +220,7 @@ prove() { # WHY
         rm -f -- "$program" "$made" crates/*/out/rlib/stamp
         fail "the sources, the toolchain or target/ have changed while $program was built: ask again"
     fi
-    [[ ! -f $folder/stdout ]] || cmp -s -- "$folder/stdout" "$printed" ||
+    [[ ! -f $folder/stdout || $(hash <"$folder/stdout") == "$(hash <"$printed")" ]] ||
         fail_build "the program that rt run $name has built does not print what $folder/stdout has"
     told=$({ cp -- "$made" "$program.new" && mv -f -- "$program.new" "$program"; } 2>&1) || {
         rm -f -- "$program.new"
