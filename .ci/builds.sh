@@ -282,6 +282,20 @@ TERM exec INT
 HUP setsid INT HUP TERM
 END
 
+# An interrupt at a terminal, which reaches the command and all of its group at once
+for _ in 1 2 3 4 5; do
+    fresh
+    checks 'sh -c "echo \$\$ >working; exec sleep 60" & wait'
+    status=0
+    { for _ in $(seq 100); do [ -s working ] || sleep 0.1; done; printf '\003'; } |
+        timeout 20 script -qec "bin/verdict '$R' '$R'" /dev/null >"$room/terminal" || status=$?
+    [ "$status" -gt 1 ] && [ "$status" != 124 ] || differs "status $status of a build that was interrupted"
+    ! grep -qs . "/proc/$(cat working)/environ" || differs 'a build is at work after an interrupt'
+    [ -z "$(ls -A "$TMPDIR")" ] || differs "a build that was interrupted has left $(ls -A "$TMPDIR") behind"
+    count=$((count + 1))
+    rm working
+done
+
 # Where a build is: each crate with its number and the time, in a line, and on one line of a terminal; and what rt waits for
 proves="$awaits
 for it in below \$crate; do

@@ -130,8 +130,8 @@ progress() { # WHY CRATES
 watcher=
 end_progress() {
     [[ -n $watcher ]] || return 0
-    kill "$watcher" 2>/dev/null || true
-    wait "$watcher" 2>/dev/null || true
+    # An interrupt ends the watcher too. For one that has ended bash may wait until rt ends.
+    ! kill "$watcher" 2>/dev/null || wait "$watcher" 2>/dev/null || true
     watcher=
     [[ ! -t 2 ]] || printf '\r\033[K' >&2
 }
@@ -153,16 +153,16 @@ wait_for_left() { # TIMES
 builder=
 workshop=
 end_build() {
+    [[ -z $builder ]] || kill -TERM -- "-$builder" 2>/dev/null || true
     end_progress
-    if [[ -n $builder ]]; then
-        kill -TERM -- "-$builder" 2>/dev/null || true
+    if [[ -n $workshop ]]; then
         wait_for_left 100
         left_of_build | xargs -r kill -KILL 2>/dev/null || true
         wait_for_left 20
-        rm -rf -- crates/*/out/rt-work-"$builder"-* || true
+        rm -rf -- "$workshop" || true
     fi
+    [[ -z $builder ]] || rm -rf -- crates/*/out/rt-work-"$builder"-* || true
     builder=
-    [[ -z $workshop ]] || rm -rf -- "$workshop" || true
     workshop=
 }
 
