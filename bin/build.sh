@@ -60,7 +60,7 @@ current() {
     as_built && was=$(head -n 2 "$record" 2>/dev/null) && now=$(origin) && [[ -n $now && $now == "$was" ]]
 }
 
-full() { fail "the disk of $root or of ${TMPDIR:-/tmp} is full: make room, of which a build takes up to TIMES GB, and ask again"; }
+full() { fail "the disk of $root or of ${TMPDIR:-/tmp} is full: make room, of which a build takes up to 1 GB, and ask again"; }
 
 # Waits until no other caller builds here. What is locked is the checkout's folder, and until this shell and all that it started have ended or
 # let it go.
@@ -220,7 +220,7 @@ prove() { # WHY
         rm -f -- "$program" "$made" crates/*/out/rlib/stamp
         fail "the sources, the toolchain or target/ have changed while $program was built: ask again"
     fi
-    [[ ! -f $folder/stdout ]] || cmp -s -- "$folder/stdout" "$printed" ||
+    [[ ! -f $folder/stdout || $(hash <"$folder/stdout") == "$(hash <"$printed")" ]] ||
         fail_build "the program that rt run $name has built does not print what $folder/stdout has"
     told=$({ cp -- "$made" "$program.new" && mv -f -- "$program.new" "$program"; } 2>&1) || {
         rm -f -- "$program.new"
