@@ -42,13 +42,13 @@ pub returns-then-scratch-twice : goal.returns-then-scratch-twice
 returns-then-scratch-twice c =
     let new_formed = sym c.well_formed-2.ensures ∙ c.if-not-well_formed.false in
     let old_formed = sym c.well_formed-3.ensures ∙ c.if-not-well_formed-2.false in
-    scratch_short new_formed old_formed (omega (arith, c.if-marks-size.false, c.pair_count-size.ensures)) (omega (arith, c.if-path-size.false, c.pair_count-size.ensures)) (omega (arith, c.if-scratch-twice.true, twice_scratch c.args.new c.args.old c.pair_count-size.ensures)) refl
+    scratch_short new_formed old_formed (omega (arith, c.if-marks-size.false, c.pair_count-size.ensures)) (omega arith) (omega (arith, c.if-scratch-twice.true, twice_scratch c.args.new c.args.old c.pair_count-size.ensures)) refl
 
 pub decide-requires : goal.decide-requires
 decide-requires c =
     let new_formed = sym c.well_formed-2.ensures ∙ c.if-not-well_formed.false in
     let old_formed = sym c.well_formed-3.ensures ∙ c.if-not-well_formed-2.false in
-    none_applies new_formed old_formed c.pair_count-size.ensures c.if-marks-size.false c.if-path-size.false c.if-scratch-twice.false
+    none_applies new_formed old_formed c.pair_count-size.ensures c.if-marks-size.false (omega arith) c.if-scratch-twice.false
 
 pub returns : goal.returns
 returns c = c.decide.ensures
