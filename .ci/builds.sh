@@ -309,7 +309,7 @@ fresh
 checks "$proves"
 rm -f "$room/err" "$room/terminal"
 answers 'yes 8' 1 'while it says where it is'
-for pattern in '^verdict: target/bin/verdict is not built yet: building it\. The first build proves 2 crates, which took between .* cores\.$' \
+for pattern in '^verdict: target/bin/verdict is not built yet: building it\. The first build proves 2 crates, which took .* cores\.$' \
     '^verdict: proving 1 of 2: below (.* s)$' '^verdict: proving 2 of 2: verdict (.* s)$'; do
     said "$pattern"
 done
