@@ -201,7 +201,7 @@ prove() { # WHY
     from=$(origin) || fail "the sources in $root cannot all be read, or some are links, or rt does not tell its version"
     mapfile -t crates < <(crates_below "$name")
     compgen -G 'crates/*/out/rlib/stamp' >/dev/null ||
-        why+=" The first build proves ${#crates[@]} crates, which took 12 min 9 s beside other work on four cores."
+        why+=" The first build proves ${#crates[@]} crates, which took 8 min 38 s beside other work on four cores."
     rm -f -- "$record"
     make_room "${crates[@]}"
     [[ ! -f $folder/stdin ]] || given=$folder/stdin
