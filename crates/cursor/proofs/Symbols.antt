@@ -1,12 +1,12 @@
 -- The number of a token tells its symbol.
 -- Assumes nothing.
-use mathlib.Core.Bool.{Bool, true, false}
+use mathlib.Core.Bool.{Bool, true, false, false≢true}
 use mathlib.Core.List.{List, [], ◌∷◌}
-use mathlib.Core.Path.{◌≡◌, refl}
+use mathlib.Core.Path.{◌≡◌, refl, sym, ◌∙◌}
 use Prim.Native.Nat.{ℕ, ◌+◌, ◌<◌}
 use native.Mathlib.Omega.{arith}
-use borrow.Author.Tests.{ltb-true, lt-ltb}
-use lib.Dec.{ltb}
+use borrow.Author.Tests.{ltb-true, lt-ltb, eqb-true, eq-eqb}
+use lib.Dec.{eqb, ltb}
 use lib.ListN.{length, get_or}
 use Rattle.rules.specs.Words.{letter, reserved, reserved_words, reserved_position}
 use Rattle.rules.specs.Tokens.{Token, Symbol, word, reserved_word, one_byte, symbol}
@@ -101,3 +101,10 @@ kind_of_byte b l = rw (kind, lt-ltb b reserved_kind l) refl
 pub kind_of-reserved : (i : ℕ) → i < length reserved_words → kind (reserved_word i) ≡ reserved_kind + i
 unfolding kind
 kind_of-reserved i l = rw (kind, lt-ltb i (length reserved_words) l) refl
+
+-- what `Taken::is` answers, of two numbers
+pub is_that : {r : Bool} (n k : ℕ) → r ≡ eqb n k → r ≡ true → n ≡ k
+is_that n k e y = eqb-true n k (sym e ∙ y)
+
+pub is_other : {r : Bool} (n k : ℕ) → r ≡ eqb n k → r ≡ false → n ≡ k → ⊥
+is_other n k e y d = false≢true (sym y ∙ e ∙ eq-eqb n k d)

@@ -6,7 +6,7 @@ use mathlib.Core.Logic.{◌⊎◌, inl, inr}
 use mathlib.Core.Path.{◌≡◌, refl, sym, ap, ◌∙◌}
 use Prim.Native.Nat.{ℕ, ◌+◌, ◌-◌, ◌<◌, ◌≤◌}
 use native.Mathlib.Omega.{arith}
-use borrow.Author.Tests.{lt-ltb, le-ltb, ltb-true}
+use borrow.Author.Tests.{lt-ltb, ltb-true}
 use lib.Dec.{ltb}
 use lib.ListN.{length, get_or}
 use Rattle.rules.specs.Basics.{part}
@@ -15,20 +15,10 @@ use Rattle.rules.specs.Tokens.{Token, symbol}
 use Rattle.rules.proofs.Basics.{part_length, part_at}
 use Rattle.rules.proofs.Words.{reserved_short}
 use Rattle.rules.proofs.TokensBehind.{past, past_from, past_within, past_stops, tokens_behind, behind_past, behind_none, behind_byte, behind_word, word_further}
-use Rattle.cursor.specs.Takes.{kind, word_number, reserved_kind, word_kind, end_kind, Takes}
+use Rattle.cursor.specs.Takes.{kind, number, word_number, reserved_kind, word_kind, Takes}
 use Rattle.cursor.specs.declared.Cursor.{Cursor}
-
-pub moved_to : (r : Cursor) {i j n u : ℕ} → r ≡ record { at = i; nodes = n; uses = u } → i ≡ j → r ≡ record { at = j; nodes = n; uses = u }
-moved_to r e d = rw (← d) e
-
-module _ (w : List ℕ) (k : ℕ) (e : k ≡ reserved_position w) where
-  pub reserved_number : k < length reserved_words → reserved_kind + k ≡ word_number w
-  unfolding word_number
-  reserved_number l = rw (word_number, ← e, lt-ltb k (length reserved_words) l) (ap (λ n. reserved_kind + n) e)
-
-  pub other_number : length reserved_words ≤ k → word_kind ≡ word_number w
-  unfolding word_number
-  other_number l = rw (word_number, ← e, le-ltb k (length reserved_words) l) refl
+use Rattle.cursor.specs.declared.Symbol as declared
+use Rattle.cursor.specs.declared.Symbol.TheVariants as symbols
 
 -- the kind of a token that begins with a letter is its word's number
 word_token : (t : Token) → letter (get_or t.spelled 0 0) ≡ true → word_number t.spelled ≡ kind (symbol t)
@@ -64,7 +54,7 @@ module _ (s : List ℕ) (c : Cursor) (h : c.at ≤ length s) where
   there_within : there ≤ length s
   there_within = past_within blank s c.at h
 
-  takes_end : length s ≤ there → Takes s c (record { kind = end_kind; at = there; len = 0; next = moved there })
+  takes_end : length s ≤ there → Takes s c (record { symbol = symbols.Nothing; at = there; len = 0; next = moved there })
   takes_end l =
       let e : there ≡ length s = omega (arith, there_within) in
       let n : tokens_behind s c.at ≡ [] = behind_past s c.at ∙ behind_none s there l in
@@ -80,7 +70,7 @@ module _ (s : List ℕ) (c : Cursor) (h : c.at ≤ length s) where
 
   takes_byte :
       there < length s → letter (get_or s there 0) ≡ false → get_or s there 0 < reserved_kind
-      → Takes s c (record { kind = get_or s there 0; at = there; len = 1; next = moved (there + 1) })
+      → Takes s c (record { symbol = symbols.Byte (get_or s there 0); at = there; len = 1; next = moved (there + 1) })
   takes_byte l e b =
       let n = behind_past s c.at ∙ behind_byte s there l (past_stops blank s c.at l) e in
       record {
@@ -101,16 +91,23 @@ module _ (s : List ℕ) (c : Cursor) (h : c.at ≤ length s) where
   part_first n l = part_at s there n 0 l ∙ ap (λ i. get_or s i 0) (omega arith)
 
   takes_word :
-      there < length s → letter (get_or s there 0) ≡ true
-      → Takes s c (record { kind = word_number (part s there (ended - there)); at = there; len = ended - there; next = moved ended })
-  takes_word l e =
+      (y : declared.Symbol) → number y ≡ word_number (part s there (ended - there)) → there < length s → letter (get_or s there 0) ≡ true
+      → Takes s c (record { symbol = y; at = there; len = ended - there; next = moved ended })
+  takes_word y k l e =
       let further = word_further s there l e in
       let within = past_within word_byte s there there_within in
       let n = behind_past s c.at ∙ behind_word s there l e in
       let size : length (part s there (ended - there)) ≡ ended - there = part_length s there (ended - there) (omega arith) in
       let head : get_or (part s there (ended - there)) 0 0 ≡ get_or s there 0 = part_first (ended - there) (omega arith) in
       record {
-        ahead = rw n (record { is = word_token (record { at = there; spelled = part s there (ended - there) }) (rw head e); stands = refl; long = sym size; behind = refl; short = word_short (part s there (ended - there)) (ended - there) size });
+        ahead =
+            rw n (record {
+              is = k ∙ word_token (record { at = there; spelled = part s there (ended - there) }) (rw head e);
+              stands = refl;
+              long = sym size;
+              behind = refl;
+              short = rw k (word_short (part s there (ended - there)) (ended - there) size);
+            });
         from = there_from;
         onward = omega arith;
         within = λ g. within;
@@ -121,16 +118,16 @@ module _ (s : List ℕ) (c : Cursor) (h : c.at ≤ length s) where
 
   -- the same of what the cursor's methods hand back
   module _ (d : Cursor) (e : d ≡ moved there) where
-    pub take_end : length s ≤ d.at → Takes s c (record { kind = end_kind; at = d.at; len = 0; next = d })
+    pub take_end : length s ≤ d.at → Takes s c (record { symbol = symbols.Nothing; at = d.at; len = 0; next = d })
     take_end l = rw e (takes_end (rw e at l))
 
     pub take_byte :
         (r : Cursor) → r ≡ record { at = d.at + 1; nodes = d.nodes; uses = d.uses } → d.at < length s → letter (get_or s d.at 0) ≡ false
-        → get_or s d.at 0 < reserved_kind → Takes s c (record { kind = get_or s d.at 0; at = d.at; len = 1; next = r })
+        → get_or s d.at 0 < reserved_kind → Takes s c (record { symbol = symbols.Byte (get_or s d.at 0); at = d.at; len = 1; next = r })
     take_byte r q l n b = rw (q, e) (takes_byte (rw e at l) (rw e at n) (rw e at b))
 
     pub take_word :
-        (r : Cursor) (i k : ℕ) (w : List ℕ) → i ≡ past word_byte s d.at → k ≡ word_number w → w ≡ part s d.at (i - d.at)
+        (r : Cursor) (i : ℕ) (y : declared.Symbol) (w : List ℕ) → i ≡ past word_byte s d.at → number y ≡ word_number w → w ≡ part s d.at (i - d.at)
         → r ≡ record { at = i; nodes = d.nodes; uses = d.uses } → d.at < length s → letter (get_or s d.at 0) ≡ true
-        → Takes s c (record { kind = k; at = d.at; len = i - d.at; next = r })
-    take_word r i k w x y z q l n = rw (q, y, z, x, e) (takes_word (rw e at l) (rw e at n))
+        → Takes s c (record { symbol = y; at = d.at; len = i - d.at; next = r })
+    take_word r i y w x k z q l n = rw (q, x, e) (takes_word y (rw (z, x, e) at k) (rw e at l) (rw e at n))

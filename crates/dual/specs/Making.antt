@@ -1,18 +1,12 @@
--- What is made on the way to a dual, and what nodes must be for that.
+-- What nodes must be for a dual to be made of them.
 -- Assumes nothing.
-use Rattle.std.specs.Prelude.{List, ◌≡◌, ℕ, ◌<◌, ◌≤◌}
-use Rattle.rules.specs.Basics.{listed, fill}
+use Rattle.std.specs.Prelude.{◌≡◌, ℕ, ◌<◌, ◌≤◌}
 use Rattle.rules.specs.Numbers.{items_most, labels_most, table_nodes_most}
-use Rattle.rules.specs.Tables.{blank_node, node_at, item_count, item_at, label_count, label_at, continuation}
-use Rattle.rules.specs.Dual.{turned_node}
+use Rattle.rules.specs.Tables.{node_at, item_count, item_at, label_count, label_at, continuation}
 use Rattle.table.specs.declared.Item.{Item}
 use Rattle.table.specs.declared.Item.TheVariants.{Session}
 use Rattle.table.specs.declared.Node.{Node}
 use Rattle.table.specs.declared.Table.{Table}
-
--- the turned nodes of a dual, with nothing behind them
-abbrev pub turned_nodes : Table → List Node
-turned_nodes t = fill table_nodes_most blank_node (listed t.count (λ i. turned_node t.count (node_at t i)))
 
 -- What an item, a node's lists, a node and a table must be to be made anew: as many items and labels as there is room for, and links
 -- below 128, so that a link that is at most 128 more is a byte still. Those of a well formed table are.

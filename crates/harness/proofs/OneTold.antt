@@ -5,14 +5,15 @@ use mathlib.Core.Path.{◌≡◌, refl, sym, ap, ◌∙◌}
 use Prim.Native.Nat.{ℕ}
 use native.Mathlib.Omega.{arith}
 use lib.ListN.{length, drop}
-use Rattle.rules.specs.Line.{Question}
+use Rattle.std.specs.Prelude.{Result}
+use Rattle.table.specs.declared.answers.Question.{Question}
+use Rattle.table.specs.declared.answers.Refusal.{Refusal}
 use Rattle.rules.specs.Writing.{LineAreas}
 use Rattle.rules.proofs.OneLine.{one_answer}
 use Rattle.rules.proofs.OneWritten.{one_written, one_counts}
-use Rattle.table.specs.declared.answers.Written.{Written}
 use Rattle.harness.specs.Told.{Told, a_line, too_short, Tells, TellsOwn, line_short, line_written}
 
-one_told : {w : Written} {r s r' s' : ℕ} → Told w r s → Told w r' s' → (r ≡ r') × (s ≡ s')
+one_told : {w : Result ℕ Refusal} {r s r' s' : ℕ} → Told w r s → Told w r' s' → (r ≡ r') × (s ≡ s')
 one_told a_line a_line = (refl, refl)
 one_told too_short too_short = (refl, refl)
 

@@ -7,10 +7,11 @@ use native.Mathlib.Omega.{arith}
 use lib.ListN.{length}
 use Rattle.rules.specs.Numbers.{text_nodes_most}
 use Rattle.rules.specs.Pairs.{turns_most}
-use Rattle.rules.specs.Line.{Question}
+use Rattle.std.specs.Prelude.{Result}
+use Rattle.table.specs.declared.answers.Question.{Question}
+use Rattle.table.specs.declared.answers.Refusal.{Refusal}
 use Rattle.rules.specs.Writing.{LineAreas, lengths, Counts, LeastShort, marks_short, path_short, scratch_short, line_short as the_line, WritesLine, refuses, writes, line_size}
 use Rattle.rules.proofs.OwnAreas.{against_most, counts_few, fewer_pairs}
-use Rattle.table.specs.declared.answers.Written.{Written}
 use Rattle.harness.specs.Told.{Told, a_line, too_short, TellsOwn, line_short, line_written}
 
 -- marks, path and scratch for the largest texts
@@ -34,7 +35,7 @@ module _ {q : Question} {new_text old_text : List ℕ} {before : LineAreas} (E :
       go (the_line a b c d) = (omega arith, d)
 
   pub tells_own :
-      {after : LineAreas} {w : Written} {r short : ℕ} → WritesLine q new_text old_text before after w → Told w r short
+      {after : LineAreas} {w : Result ℕ Refusal} {r short : ℕ} → WritesLine q new_text old_text before after w → Told w r short
       → TellsOwn q new_text old_text before.line after.line r short
   tells_own (refuses C s e) too_short =
       let l = line_alone C s in rw l.0 (line_short C l.1 (ap (λ (a : LineAreas). a.line) e))

@@ -1,20 +1,20 @@
 -- What C is told of a reply, in two numbers.
 -- Assumes nothing.
-use Rattle.std.specs.Prelude.{List, ◌++◌, ◌≡◌, ℕ, ◌<◌, ◌≤◌, length, drop}
-use Rattle.rules.specs.Line.{Question, Answers}
+use Rattle.std.specs.Prelude.{List, ◌++◌, ◌≡◌, ℕ, ◌<◌, ◌≤◌, length, drop, Result, Ok, Err}
+use Rattle.rules.specs.Line.{Answers}
 use Rattle.rules.specs.Replies.{Areas}
 use Rattle.rules.specs.Writing.{LineAreas, WritesLine, Counts, line_size}
-use Rattle.table.specs.declared.answers.Written.{Written}
-use Rattle.table.specs.declared.answers.Written.TheVariants.{Line, Refused}
+use Rattle.table.specs.declared.answers.Question.{Question}
+use Rattle.table.specs.declared.answers.Refusal.{Refusal}
 
 -- the line's length, and 0; or 0, and the position of the area that is too short, counted from 1
-pub data Told : Written → ℕ → ℕ → Type 0 where
-  a_line : {n : ℕ} → Told (Line n) n 0
-  too_short : {number place : ℕ} → Told (Refused number place) 0 place
+pub data Told : Result ℕ Refusal → ℕ → ℕ → Type 0 where
+  a_line : {n : ℕ} → Told (Ok n) n 0
+  too_short : {r : Refusal} → Told (Err r) 0 r.place
 
 -- what a reply over four lent areas tells
 pub record Tells (q : Question) (new_text old_text : List ℕ) (before after : LineAreas) (r short : ℕ) : Type 0 where
-  pub reply : Written
+  pub reply : Result ℕ Refusal
   pub writes : WritesLine q new_text old_text before after reply
   pub told : Told reply r short
 

@@ -2,11 +2,15 @@
 // comment for each function, and says what C itself must keep. Nothing is asked here.
 #![tactic(auto)]
 
-ghost use Rattle.rules.specs.Line.{may_replace, is_compatible};
+ghost use Rattle.std.specs.Prelude.{◌*◌, ◌≤◌};
+ghost use Rattle.rules.specs.Numbers.{text_nodes_most};
+ghost use Rattle.rules.specs.Pairs.{turns_most};
+ghost use Rattle.rules.proofs.OwnAreas.{against_most};
+ghost use Rattle.table.specs.declared.answers.Question.TheVariants.{MayReplace, IsCompatible};
 ghost use Rattle.harness.specs.Told.{Told, Tells, TellsOwn};
 
-use lines::{compatible_line, verdict_line};
-use table::answers::Written;
+use lines::line_of_texts;
+use table::answers::{Question, Refusal};
 
 // The areas for the largest texts, 64 nodes each: 2 × n × m, 2 × n × m, 4 × n × m.
 const MARKS: usize = 8192;
@@ -23,19 +27,48 @@ const DUAL_PATH: usize = 16384;
 const DUAL_SCRATCH: usize = 32768;
 
 // What C is told: the line's length, 0 where there is none; and through `short` the position of the area that is too short, 0 where none is.
-fn tell(written: Written, short: &mut usize) -> usize
+fn tell(written: Result<usize, Refusal>, short: &mut usize) -> usize
     ensures { Told written result short.new }
 {
     match written {
-        Written::Line(n) => {
+        Ok(n) => {
             *short = 0;
             n
         }
-        Written::Refused { number: _, place } => {
-            *short = place;
+        Err(refusal) => {
+            *short = refusal.place;
             0
         }
     }
+}
+
+// The line for two texts, in marks, path and scratch of M, P and S elements.
+fn line_in_own<const M: usize, const P: usize, const S: usize>(
+    question: Question,
+    new: &[u8],
+    other: &[u8],
+    line: &mut [u8],
+    short: &mut usize,
+) -> usize
+    requires marks_long { turns_most * text_nodes_most * against_most question ≤ M }
+    requires path_long { turns_most * text_nodes_most * against_most question ≤ P }
+    requires scratch_long { 4 * text_nodes_most * against_most question ≤ S }
+    requires on_stack { (M ≤ 65536) × (P ≤ 65536) × (S ≤ 65536) }
+    ensures { TellsOwn question new.now other.now line.old line.new result short.new }
+{
+    let mut marks = [0u8; M];
+    let mut path = [0u16; P];
+    let mut scratch = [0u16; S];
+    let written = line_of_texts(
+        question,
+        new,
+        other,
+        &mut marks,
+        &mut path,
+        &mut scratch,
+        line,
+    );
+    tell(written, short)
 }
 
 // Whether the new text may replace the old one.
@@ -49,9 +82,10 @@ pub extern "C" fn dzaghvori_verdict(
     line: &mut [u8],
     short: &mut usize,
 ) -> usize
-    ensures { Tells may_replace new.now old.now (record { lent = record { marks = marks.old; path = path.old; scratch = scratch.old }; line = line.old }) (record { lent = record { marks = marks.new; path = path.new; scratch = scratch.new }; line = line.new }) result short.new }
+    ensures { Tells MayReplace new.now old.now (record { lent = record { marks = marks.old; path = path.old; scratch = scratch.old }; line = line.old }) (record { lent = record { marks = marks.new; path = path.new; scratch = scratch.new }; line = line.new }) result short.new }
 {
-    let written = verdict_line(new, old, marks, path, scratch, line);
+    let question = Question::MayReplace;
+    let written = line_of_texts(question, new, old, marks, path, scratch, line);
     tell(written, short)
 }
 
@@ -66,9 +100,10 @@ pub extern "C" fn dzaghvori_compatible(
     line: &mut [u8],
     short: &mut usize,
 ) -> usize
-    ensures { Tells is_compatible new.now other.now (record { lent = record { marks = marks.old; path = path.old; scratch = scratch.old }; line = line.old }) (record { lent = record { marks = marks.new; path = path.new; scratch = scratch.new }; line = line.new }) result short.new }
+    ensures { Tells IsCompatible new.now other.now (record { lent = record { marks = marks.old; path = path.old; scratch = scratch.old }; line = line.old }) (record { lent = record { marks = marks.new; path = path.new; scratch = scratch.new }; line = line.new }) result short.new }
 {
-    let written = compatible_line(new, other, marks, path, scratch, line);
+    let question = Question::IsCompatible;
+    let written = line_of_texts(question, new, other, marks, path, scratch, line);
     tell(written, short)
 }
 
@@ -80,13 +115,9 @@ pub extern "C" fn dzaghvori_verdict_own(
     line: &mut [u8],
     short: &mut usize,
 ) -> usize
-    ensures { TellsOwn may_replace new.now old.now line.old line.new result short.new }
+    ensures { TellsOwn MayReplace new.now old.now line.old line.new result short.new }
 {
-    let mut marks = [0u8; MARKS];
-    let mut path = [0u16; PATH];
-    let mut scratch = [0u16; SCRATCH];
-    let written = verdict_line(new, old, &mut marks, &mut path, &mut scratch, line);
-    tell(written, short)
+    line_in_own::<MARKS, PATH, SCRATCH>(Question::MayReplace, new, old, line, short)
 }
 
 // The same as the second, in marks, path and scratch of its own.
@@ -97,11 +128,13 @@ pub extern "C" fn dzaghvori_compatible_own(
     line: &mut [u8],
     short: &mut usize,
 ) -> usize
-    ensures { TellsOwn is_compatible new.now other.now line.old line.new result short.new }
+    ensures { TellsOwn IsCompatible new.now other.now line.old line.new result short.new }
 {
-    let mut marks = [0u8; DUAL_MARKS];
-    let mut path = [0u16; DUAL_PATH];
-    let mut scratch = [0u16; DUAL_SCRATCH];
-    let written = compatible_line(new, other, &mut marks, &mut path, &mut scratch, line);
-    tell(written, short)
+    line_in_own::<DUAL_MARKS, DUAL_PATH, DUAL_SCRATCH>(
+        Question::IsCompatible,
+        new,
+        other,
+        line,
+        short,
+    )
 }

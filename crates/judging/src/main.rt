@@ -2,11 +2,11 @@
 // each label 16 bytes long and at a place of its own. How long that takes is in docs/CHANGES.md.
 #![tactic(auto)]
 
-ghost use Rattle.std.specs.Prelude.{◌≡◌, ◌<◌, length};
+ghost use Rattle.std.specs.Prelude.{◌<◌};
 ghost use Rattle.rules.specs.Numbers.{table_nodes_most};
 
 use formed::well_formed;
-use std::io;
+use std::{array, io};
 use table::{ITEMS_MOST, Item, Kind, LABELS_MOST, Label, NODES_MOST, Node, Slot, Sort, Table};
 use words::WORD_MOST;
 
@@ -21,50 +21,28 @@ const NAMES: usize = NODES_MOST * CHOICE;
 const SPELLED: [u8; CHOICE] =
     *b"command_number_0command_number_1command_number_2command_number_3command_number_4command_number_5command_number_6command_number_7command_number_8command_number_9command_number_acommand_number_bcommand_number_ccommand_number_dcommand_number_ecommand_number_f";
 
-fn many_names() -> [u8; NAMES]
-    ensures { 32768 ≡ length result }
-{
-    let mut names = [0u8; NAMES];
-    for i in 0..NAMES {
-        names[i] = SPELLED[i % CHOICE];
-    }
-    names
-}
-
 fn choice(node: usize) -> Node
     requires { node < table_nodes_most }
 {
-    let mut labels = [Label {
-        at: 0,
-        len: 0,
-        to: 0,
-    }; LABELS_MOST];
-    for i in 0..LABELS_MOST {
-        labels[i] = Label {
-            at: (node * CHOICE + i * WORD_MOST) as u16,
-            len: WORD_MOST as u8,
-            to: node as u8,
-        };
-    }
     Node {
         kind: Kind::Choose,
         items: [Slot {
             item: Item::OfSort(Sort::String),
         }; ITEMS_MOST],
         item_count: 0,
-        labels,
+        labels: array::from_fn(|i| Label {
+            at: (node * CHOICE + i * WORD_MOST) as u16,
+            len: WORD_MOST as u8,
+            to: node as u8,
+        }),
         label_count: LABELS_MOST as u8,
         next: 0,
     }
 }
 
 fn largest() -> Table {
-    let mut nodes = [choice(0); NODES_MOST];
-    for i in 0..NODES_MOST {
-        nodes[i] = choice(i);
-    }
     Table {
-        nodes,
+        nodes: array::from_fn(|i| choice(i)),
         count: NODES_MOST as u8,
         start: 0,
     }
@@ -77,7 +55,7 @@ fn first_letter(round: usize) -> u8 {
 
 fn main(rt: HostRuntime) -> io::Result<()> {
     let mut t = largest();
-    let mut names = many_names();
+    let mut names: [u8; NAMES] = array::from_fn(|i| SPELLED[i % CHOICE]);
     let mut good: u64 = 0;
     for round in 0..ROUNDS {
         // another table and other bytes each time, so that nothing is judged once for all
@@ -87,6 +65,5 @@ fn main(rt: HostRuntime) -> io::Result<()> {
             good += 1;
         }
     }
-    rt.print(good)?;
-    rt.write_all(b"\n")
+    println!(rt; "{good}")
 }

@@ -1,17 +1,13 @@
-// Areas of given lengths, cut from longer ones that are full of 7: the line of a case also says whether all that the answer does not use
-// stayed.
-use crate::show::{BYTE, Door, NUMBER, ask, print};
+// The lent areas, full of 7 before; no line depends on it. Of areas that are longer than what is lent, the line of a case also says whether
+// all that the answer does not use stayed.
+use crate::show::{Asked, print};
+use lines::{line_of_input, line_of_texts};
 use std::io;
-use table::answers::Written;
+use table::answers::{Question, Refusal};
 
-// The most that is lent here of each.
-const MARKS: usize = 60;
+pub const BYTE: u8 = 7;
 
-const PATH: usize = 60;
-
-const SCRATCH: usize = 120;
-
-const LINE: usize = 200;
+pub const NUMBER: u16 = 7;
 
 // How many elements of each area are lent, or used.
 #[derive(Clone, Copy)]
@@ -22,8 +18,15 @@ pub struct Sizes {
     pub line: usize,
 }
 
-impl Sizes {
-    pub fn of(marks: usize, path: usize, scratch: usize, line: usize) -> Sizes {
+const NOTHING: Sizes = Sizes {
+    marks: 0,
+    path: 0,
+    scratch: 0,
+    line: 0,
+};
+
+impl From<[usize; 4]> for Sizes {
+    fn from([marks, path, scratch, line]: [usize; 4]) -> Sizes {
         Sizes {
             marks,
             path,
@@ -33,121 +36,120 @@ impl Sizes {
     }
 }
 
-// Whether an area is as it was from `from` on.
-fn bytes_kept(s: &[u8], from: usize) -> bool {
-    for i in from..s.len() {
-        if s[i] != BYTE {
-            return false;
+#[derive(Drop)]
+pub struct Areas<'a> {
+    pub marks: &'a mut [u8],
+    pub path: &'a mut [u16],
+    pub scratch: &'a mut [u16],
+    pub line: &'a mut [u8],
+}
+
+pub fn ask(asked: Asked, areas: Areas) -> Result<usize, Refusal> {
+    let Areas {
+        marks,
+        path,
+        scratch,
+        line,
+    } = areas;
+    match asked {
+        Asked::Texts(question, first, second) => {
+            line_of_texts(question, first, second, marks, path, scratch, line)
+        }
+        Asked::Input(question, input) => {
+            line_of_input(question, input, marks, path, scratch, line)
         }
     }
-    true
 }
 
-fn numbers_kept(s: &[u16], from: usize) -> bool {
-    for i in from..s.len() {
-        if s[i] != NUMBER {
-            return false;
-        }
-    }
-    true
-}
+// The most that is lent here of each.
+const MARKS: usize = 60;
 
-// Whether all four are as they were behind what is used.
-fn kept(marks: &[u8], path: &[u16], scratch: &[u16], line: &[u8], used: Sizes) -> bool {
-    if !bytes_kept(marks, used.marks) {
-        return false;
-    }
-    if !numbers_kept(path, used.path) {
-        return false;
-    }
-    if !numbers_kept(scratch, used.scratch) {
-        return false;
-    }
-    bytes_kept(line, used.line)
-}
+const PATH: usize = 60;
 
-// What an answer uses, where a verdict uses `verdict` of the first three: a refusal nothing, and a line its own bytes.
-fn used(written: Written, verdict: Sizes) -> Sizes {
-    match written {
-        Written::Line(n) => Sizes::of(verdict.marks, verdict.path, verdict.scratch, n),
-        Written::Refused {
-            number: _,
-            place: _,
-        } => Sizes::of(0, 0, 0, 0),
-    }
-}
+const SCRATCH: usize = 120;
 
-fn print_number(rt: &impl Print, n: usize) -> io::Result<()> {
-    rt.write_all(b" ")?;
-    rt.print(n)
-}
+const LINE: usize = 200;
 
-fn print_name(rt: &impl Print, name: &[u8], lent: Sizes) -> io::Result<()> {
-    rt.write_all(name)?;
-    rt.write_all(b", areas of")?;
-    print_number(rt, lent.marks)?;
-    print_number(rt, lent.path)?;
-    print_number(rt, lent.scratch)?;
-    print_number(rt, lent.line)
+// What the areas of a case hold after the answer, and what is behind the part that was lent.
+#[derive(Clone, Copy)]
+struct After {
+    marks: [u8; MARKS],
+    path: [u16; PATH],
+    scratch: [u16; SCRATCH],
+    line: [u8; LINE],
 }
 
 // The first of each area are lent; where there are not so many, all.
-fn ask_lent(
-    door: Door,
-    first: &[u8],
-    second: &[u8],
-    marks: &mut [u8],
-    path: &mut [u16],
-    scratch: &mut [u16],
-    line: &mut [u8],
-    lent: Sizes,
-) -> Written {
-    let m = lent.marks;
-    let p = lent.path;
-    let s = lent.scratch;
-    let l = lent.line;
-    if marks.len() < m || path.len() < p || scratch.len() < s || line.len() < l {
-        return ask(door, first, second, marks, path, scratch, line);
-    }
-    ask(
-        door,
-        first,
-        second,
-        &mut marks[0..m],
-        &mut path[0..p],
-        &mut scratch[0..s],
-        &mut line[0..l],
-    )
-}
-
-// `verdict` is what a verdict on the two texts uses of the first three areas.
-pub fn show(
-    rt: &impl Print,
-    door: Door,
-    name: &[u8],
-    first: &[u8],
-    second: &[u8],
-    verdict: Sizes,
-    lent: Sizes,
-) -> io::Result<()> {
+fn ask_lent(asked: Asked, lent: Sizes) -> (Result<usize, Refusal>, After) {
     let mut marks = [BYTE; MARKS];
     let mut path = [NUMBER; PATH];
     let mut scratch = [NUMBER; SCRATCH];
     let mut line = [BYTE; LINE];
-    let written = ask_lent(
-        door,
-        first,
-        second,
-        &mut marks,
-        &mut path,
-        &mut scratch,
-        &mut line,
-        lent,
-    );
-    print_name(rt, name, lent)?;
-    if kept(&marks, &path, &scratch, &line, used(written, verdict)) {
-        print(rt, b"", b", the rest kept", written, &line)
-    } else {
-        print(rt, b"", b", the rest changed", written, &line)
+    let areas = Areas {
+        marks: &mut marks[..lent.marks.min(MARKS)],
+        path: &mut path[..lent.path.min(PATH)],
+        scratch: &mut scratch[..lent.scratch.min(SCRATCH)],
+        line: &mut line[..lent.line.min(LINE)],
+    };
+    let written = ask(asked, areas);
+    let after = After {
+        marks,
+        path,
+        scratch,
+        line,
+    };
+    (written, after)
+}
+
+impl After {
+    // Whether all four are as they were behind what is used.
+    fn kept(&self, used: Sizes) -> bool {
+        self.marks.iter().skip(used.marks).all(|x| *x == BYTE)
+            && self.path.iter().skip(used.path).all(|x| *x == NUMBER)
+            && self.scratch.iter().skip(used.scratch).all(|x| *x == NUMBER)
+            && self.line.iter().skip(used.line).all(|x| *x == BYTE)
     }
+}
+
+// What an answer uses, where a verdict uses `verdict` of the first three: a refusal nothing, and a line its own bytes.
+fn used(written: Result<usize, Refusal>, verdict: Sizes) -> Sizes {
+    match written {
+        Ok(line) => Sizes { line, ..verdict },
+        Err(_) => NOTHING,
+    }
+}
+
+// `verdict` is what a verdict on the two texts uses of the first three areas.
+fn show(rt: &impl Print, name: &str, asked: Asked, verdict: Sizes, lent: Sizes) -> io::Result<()> {
+    let (written, after) = ask_lent(asked, lent);
+    let kept = after.kept(used(written, verdict));
+    let rest = if kept { "kept" } else { "changed" };
+    let Sizes {
+        marks,
+        path,
+        scratch,
+        line,
+    } = lent;
+    print(
+        rt,
+        format_args!("{name}, areas of {marks} {path} {scratch} {line}, the rest {rest}"),
+        written,
+        &after.line,
+    )
+}
+
+// In areas of each of these lengths: of marks, of path, of scratch and of the line.
+pub fn show_each(
+    rt: &impl Print,
+    name: &str,
+    asked: Asked,
+    verdict: [usize; 3],
+    lengths: &[[usize; 4]],
+) -> io::Result<()> {
+    let [marks, path, scratch] = verdict;
+    let verdict = Sizes::from([marks, path, scratch, 0]);
+    for lent in lengths {
+        show(rt, name, asked, verdict, Sizes::from(*lent))?;
+    }
+    Ok(())
 }

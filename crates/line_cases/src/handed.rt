@@ -6,7 +6,7 @@ use std::io;
 fn own_session(rt: &impl Print) -> io::Result<()> {
     compatibles(
         rt,
-        b"its dual with own session: D = ?(A); end . A = ![A]; end . / A = ![A]; end .\n\
+        "its dual with own session: D = ?(A); end . A = ![A]; end . / A = ![A]; end .\n\
         own session with its dual: A = ![A]; end . / D = ?(A); end . A = ![A]; end .\n\
         own session with itself: A = ![A]; end . / A = ![A]; end .\n\
         figure 4 to the letter: D = ?(D); end . / A = ![A]; end .\n",
@@ -17,7 +17,7 @@ fn own_session(rt: &impl Print) -> io::Result<()> {
 fn choices(rt: &impl Print) -> io::Result<()> {
     compatibles(
         rt,
-        b"two commands handed over, one taken: A = ![P]; end . P = +{a: end | b: end} . / A = ?(P); end . P = +{a: end} .\n\
+        "two commands handed over, one taken: A = ![P]; end . P = +{a: end | b: end} . / A = ?(P); end . P = +{a: end} .\n\
         two commands taken, one handed over: A = ?(P); end . P = +{a: end | b: end} . / A = ![P]; end . P = +{a: end} .\n\
         one command handed over, two taken: A = ![P]; end . P = +{a: end} . / A = ?(P); end . P = +{a: end | b: end} .\n\
         one command taken, two handed over: A = ?(P); end . P = +{a: end} . / A = ![P]; end . P = +{a: end | b: end} .\n",
@@ -28,7 +28,7 @@ fn choices(rt: &impl Print) -> io::Result<()> {
 fn whole_sessions(rt: &impl Print) -> io::Result<()> {
     compatibles(
         rt,
-        b"R handed over, R taken: H = ![R]; end . R = +{sum: ![string]; &{ok: ?(float); R | bad: R} | stop: end} . / K = ?(R); end . R = +{sum: ![string]; &{ok: ?(float); R | bad: R} | stop: end} .\n\
+        "R handed over, R taken: H = ![R]; end . R = +{sum: ![string]; &{ok: ?(float); R | bad: R} | stop: end} . / K = ?(R); end . R = +{sum: ![string]; &{ok: ?(float); R | bad: R} | stop: end} .\n\
         N handed over, R taken: H = ![N]; end . N = +{sum: ![string]; &{ok: ?(float); N | late: N} | stop: end} . / K = ?(R); end . R = +{sum: ![string]; &{ok: ?(float); R | bad: R} | stop: end} .\n\
         R handed over, M taken: H = ![R]; end . R = +{sum: ![string]; &{ok: ?(float); R | bad: R} | stop: end} . / K = ?(M); end . M = +{sum: ![string]; &{ok: ?(float); M} | stop: end | reset: M} .\n\
         M handed over, R taken: H = ![M]; end . M = +{sum: ![string]; &{ok: ?(float); M} | stop: end | reset: M} . / K = ?(R); end . R = +{sum: ![string]; &{ok: ?(float); R | bad: R} | stop: end} .\n\

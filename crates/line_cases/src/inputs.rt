@@ -1,15 +1,15 @@
 // "reads the new text, one byte 0, the old text": inputs, for both questions.
 use crate::lists::inputs;
-use crate::show::{Door, show, show_input};
-use crate::texts::put;
-use showing::parts::front;
+use crate::show::{Asked, show, show_input};
+use showing::text::Text;
 use std::io;
+use table::answers::Question;
 
 // "Without a byte 0 the second text is empty; further zero bytes belong to the second."
 fn zeros(rt: &impl Print) -> io::Result<()> {
     inputs(
         rt,
-        b"nothing: \n\
+        "nothing: \n\
         zero alone: \x00\n\
         no zero: A = end .\n\
         no zero and no full stop: A = end\n\
@@ -25,19 +25,20 @@ fn zeros(rt: &impl Print) -> io::Result<()> {
 }
 
 fn line_feeds(rt: &impl Print) -> io::Result<()> {
-    show_input(rt, b"line feed last", b"A = end .\x00B = end .\n")?;
-    show_input(
-        rt,
-        b"line feeds around the zero",
-        b"A = end .\n\x00\nB = end .\n",
-    )?;
-    show_input(rt, b"line feed alone for the second", b"A = end .\x00\n")
+    for (name, input) in [
+        ("line feed last", "A = end .\x00B = end .\n"),
+        ("line feeds around the zero", "A = end .\n\x00\nB = end .\n"),
+        ("line feed alone for the second", "A = end .\x00\n"),
+    ] {
+        show_input(rt, name, input)?;
+    }
+    Ok(())
 }
 
 fn which(rt: &impl Print) -> io::Result<()> {
     inputs(
         rt,
-        b"first refused: A = B .\x00B = end .\n\
+        "first refused: A = B .\x00B = end .\n\
         second refused: A = end .\x00B = B .\n\
         both refused: A = A .\x00= end .\n\
         both empty but for blanks:  \x00 \n\
@@ -51,78 +52,43 @@ fn which(rt: &impl Print) -> io::Result<()> {
 }
 
 // Two texts of blanks behind one definition each: the byte 0 stands behind the first `zero` bytes, and all are `len`.
-fn long(rt: &impl Print, door: Door, name: &[u8], zero: usize, len: usize) -> io::Result<()> {
-    let mut room = [b' '; 8195];
-    put(b"A = end .", 0, &mut room);
-    let second = put(b"\x00", zero, &mut room);
-    put(b"B = end .", second, &mut room);
-    show(rt, door, name, b"", front(&room, len), b"")
+fn long(rt: &impl Print, question: Question, cases: &[(&str, usize, usize)]) -> io::Result<()> {
+    for (name, zero, len) in cases {
+        let first = Text::<8195>::of("A = end .").up_to(*zero);
+        let input = first.and("\x00").and("B = end .").up_to(*len);
+        show(rt, *name, Asked::Input(question, input.bytes()))?;
+    }
+    Ok(())
 }
 
 // A text has at most 4,096 bytes; the byte 0 belongs to neither.
 fn lengths(rt: &impl Print) -> io::Result<()> {
     long(
         rt,
-        Door::VerdictOfInput,
-        b"first of 4,096 bytes",
-        4096,
-        4106,
-    )?;
-    long(
-        rt,
-        Door::VerdictOfInput,
-        b"first of 4,097 bytes",
-        4097,
-        4107,
-    )?;
-    long(rt, Door::VerdictOfInput, b"second of 4,096 bytes", 9, 4106)?;
-    long(rt, Door::VerdictOfInput, b"second of 4,097 bytes", 9, 4107)?;
-    long(rt, Door::VerdictOfInput, b"both of 4,096 bytes", 4096, 8193)?;
-    long(rt, Door::VerdictOfInput, b"both of 4,097 bytes", 4097, 8195)?;
-    long(
-        rt,
-        Door::VerdictOfInput,
-        b"4,096 bytes and no zero",
-        4096,
-        4096,
-    )?;
-    long(
-        rt,
-        Door::VerdictOfInput,
-        b"4,097 bytes and no zero",
-        4097,
-        4097,
-    )?;
-    long(
-        rt,
-        Door::VerdictOfInput,
-        b"4,096 bytes and a zero",
-        4096,
-        4097,
+        Question::MayReplace,
+        &[
+            ("first of 4,096 bytes", 4096, 4106),
+            ("first of 4,097 bytes", 4097, 4107),
+            ("second of 4,096 bytes", 9, 4106),
+            ("second of 4,097 bytes", 9, 4107),
+            ("both of 4,096 bytes", 4096, 8193),
+            ("both of 4,097 bytes", 4097, 8195),
+            ("4,096 bytes and no zero", 4096, 4096),
+            ("4,097 bytes and no zero", 4097, 4097),
+            ("4,096 bytes and a zero", 4096, 4097),
+        ],
     )
 }
 
 fn lengths_compatible(rt: &impl Print) -> io::Result<()> {
     long(
         rt,
-        Door::CompatibleOfInput,
-        b"first of 4,097 bytes, compatible",
-        4097,
-        4107,
-    )?;
-    long(
-        rt,
-        Door::CompatibleOfInput,
-        b"second of 4,096 bytes, compatible",
-        9,
-        4106,
-    )?;
-    long(
-        rt,
-        Door::CompatibleOfInput,
-        b"second of 4,097 bytes, compatible",
-        9,
-        4107,
+        Question::IsCompatible,
+        &[
+            ("first of 4,097 bytes, compatible", 4097, 4107),
+            ("second of 4,096 bytes, compatible", 9, 4106),
+            ("second of 4,097 bytes, compatible", 9, 4107),
+        ],
     )
 }
 

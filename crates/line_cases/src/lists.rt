@@ -1,81 +1,41 @@
-// Lists of cases: a line for each, with a line feed behind it.
+// Lists of cases, a line each: its name, a colon, and what the cases are of.
 use crate::show::{show_beside, show_compatible, show_input, show_verdict};
-use showing::parts::{between, find};
 use std::io;
 
-// What stands in a line behind its name and a colon: two texts, parted by a stroke, for one question or the other; a text, which is shown
-// as the first of two and as the second; or an input, for both questions.
-#[derive(Clone, Copy)]
-enum Form {
-    Verdict,
-    Compatible,
-    Text,
-    Input,
-}
-
-// There is a blank on either side of the stroke.
-fn show_pair(rt: &impl Print, compatible: bool, name: &[u8], texts: &[u8]) -> io::Result<()> {
-    let stroke = find(texts, b'/', 1);
-    if texts.len() <= stroke {
-        return Ok(());
-    }
-    let first = between(texts, 0, stroke - 1);
-    let second = between(texts, stroke + 2, texts.len());
-    if compatible {
-        show_compatible(rt, name, first, second)
-    } else {
-        show_verdict(rt, name, first, second)
-    }
-}
-
-fn show_case(rt: &impl Print, form: Form, name: &[u8], rest: &[u8]) -> io::Result<()> {
-    match form {
-        Form::Verdict => show_pair(rt, false, name, rest),
-        Form::Compatible => show_pair(rt, true, name, rest),
-        Form::Text => show_beside(rt, name, rest, b"A = end ."),
-        Form::Input => show_input(rt, name, rest),
-    }
-}
-
-// A name, a colon, a blank, and what the form says.
-fn show_line(rt: &impl Print, form: Form, case: &[u8]) -> io::Result<()> {
-    let colon = find(case, b':', 0);
-    if colon < case.len() {
-        show_case(
-            rt,
-            form,
-            between(case, 0, colon),
-            between(case, colon + 2, case.len()),
-        )?;
-    }
-    Ok(())
-}
-
-fn show_lines(rt: &impl Print, form: Form, cases: &[u8]) -> io::Result<()> {
-    let mut at = 0;
-    while at < cases.len() {
-        let end = find(cases, b'\n', at);
-        if cases.len() <= end {
-            return Ok(());
+fn each<F: Fn(&str, &str) -> io::Result<()>>(cases: &str, show: F) -> io::Result<()>
+    requires { F.IsAlwaysCallable show }
+{
+    for case in cases.lines() {
+        if let Some((name, rest)) = case.split_once(": ") {
+            show(name, rest)?;
         }
-        show_line(rt, form, between(cases, at, end))?;
-        at = end + 1;
     }
     Ok(())
 }
 
-pub fn verdicts(rt: &impl Print, cases: &[u8]) -> io::Result<()> {
-    show_lines(rt, Form::Verdict, cases)
+// Two texts, parted by a stroke.
+pub fn verdicts(rt: &impl Print, cases: &str) -> io::Result<()> {
+    each(cases, |name, texts| match texts.split_once(" / ") {
+        Some((new, old)) => show_verdict(rt, name, new, old),
+        None => Ok(()),
+    })
 }
 
-pub fn compatibles(rt: &impl Print, cases: &[u8]) -> io::Result<()> {
-    show_lines(rt, Form::Compatible, cases)
+pub fn compatibles(rt: &impl Print, cases: &str) -> io::Result<()> {
+    each(cases, |name, texts| match texts.split_once(" / ") {
+        Some((new, other)) => show_compatible(rt, name, new, other),
+        None => Ok(()),
+    })
 }
 
-pub fn texts(rt: &impl Print, cases: &[u8]) -> io::Result<()> {
-    show_lines(rt, Form::Text, cases)
+// A text, which is shown as the first of two and as the second.
+pub fn texts(rt: &impl Print, cases: &str) -> io::Result<()> {
+    each(cases, |name, text| {
+        show_beside(rt, name, text.as_bytes(), "A = end .")
+    })
 }
 
-pub fn inputs(rt: &impl Print, cases: &[u8]) -> io::Result<()> {
-    show_lines(rt, Form::Input, cases)
+// An input, for both questions.
+pub fn inputs(rt: &impl Print, cases: &str) -> io::Result<()> {
+    each(cases, |name, input| show_input(rt, name, input))
 }

@@ -4,61 +4,81 @@ use crate::texts::{M, N, P, Q, R};
 use std::io;
 
 // The duals of R, N, M, P and Q written out: "a session item is not turned round".
-const U: [u8; 64] = *b"U = &{sum: ?(string); +{ok: ![float]; U | bad: U} | stop: end} .";
+const U: &str = "U = &{sum: ?(string); +{ok: ![float]; U | bad: U} | stop: end} .";
 
-const V: [u8; 65] = *b"V = &{sum: ?(string); +{ok: ![float]; V | late: V} | stop: end} .";
+const V: &str = "V = &{sum: ?(string); +{ok: ![float]; V | late: V} | stop: end} .";
 
-const W: [u8; 66] = *b"W = &{sum: ?(string); +{ok: ![float]; W} | stop: end | reset: W} .";
+const W: &str = "W = &{sum: ?(string); +{ok: ![float]; W} | stop: end | reset: W} .";
 
-const Y: [u8; 23] = *b"Y = ?(+{a: end}); end .";
+const Y: &str = "Y = ?(+{a: end}); end .";
 
-const Z: [u8; 32] = *b"Z = ?(+{a: end | b: end}); end .";
+const Z: &str = "Z = ?(+{a: end | b: end}); end .";
 
 fn verdicts(rt: &impl Print) -> io::Result<()> {
-    show_verdict(rt, b"R, N", &R, &N)?;
-    show_verdict(rt, b"N, N", &N, &N)?;
-    show_verdict(rt, b"N, M", &N, &M)?;
-    show_verdict(rt, b"M, N", &M, &N)?;
-    show_verdict(rt, b"M, M", &M, &M)?;
-    show_verdict(rt, b"P, P", &P, &P)?;
-    show_verdict(rt, b"Q, Q", &Q, &Q)?;
-    show_verdict(rt, b"R, P", &R, &P)?;
-    show_verdict(rt, b"P, R", &P, &R)?;
-    show_verdict(rt, b"Q, M", &Q, &M)
+    for (name, new, old) in [
+        ("R, N", R, N),
+        ("N, N", N, N),
+        ("N, M", N, M),
+        ("M, N", M, N),
+        ("M, M", M, M),
+        ("P, P", P, P),
+        ("Q, Q", Q, Q),
+        ("R, P", R, P),
+        ("P, R", P, R),
+        ("Q, M", Q, M),
+    ] {
+        show_verdict(rt, name, new, old)?;
+    }
+    Ok(())
 }
 
 fn duals_of_replies(rt: &impl Print) -> io::Result<()> {
-    show_compatible(rt, b"U with R", &U, &R)?;
-    show_compatible(rt, b"U with N", &U, &N)?;
-    show_compatible(rt, b"U with M", &U, &M)?;
-    show_compatible(rt, b"V with R", &V, &R)?;
-    show_compatible(rt, b"V with N", &V, &N)?;
-    show_compatible(rt, b"V with M", &V, &M)?;
-    show_compatible(rt, b"W with R", &W, &R)?;
-    show_compatible(rt, b"W with N", &W, &N)?;
-    show_compatible(rt, b"W with M", &W, &M)
+    for (name, new, other) in [
+        ("U with R", U, R),
+        ("U with N", U, N),
+        ("U with M", U, M),
+        ("V with R", V, R),
+        ("V with N", V, N),
+        ("V with M", V, M),
+        ("W with R", W, R),
+        ("W with N", W, N),
+        ("W with M", W, M),
+    ] {
+        show_compatible(rt, name, new, other)?;
+    }
+    Ok(())
 }
 
 fn with_duals(rt: &impl Print) -> io::Result<()> {
-    show_compatible(rt, b"R with U", &R, &U)?;
-    show_compatible(rt, b"N with U", &N, &U)?;
-    show_compatible(rt, b"M with U", &M, &U)?;
-    show_compatible(rt, b"R with W", &R, &W)?;
-    show_compatible(rt, b"R with R", &R, &R)
+    for (name, new, other) in [
+        ("R with U", R, U),
+        ("N with U", N, U),
+        ("M with U", M, U),
+        ("R with W", R, W),
+        ("R with R", R, R),
+    ] {
+        show_compatible(rt, name, new, other)?;
+    }
+    Ok(())
 }
 
 // A dual of P has 8 nodes and one of Q 10: the originals, to which the item links, stand behind the turned nodes, the choice at 4 + 1 and
 // at 5 + 1.
 fn items(rt: &impl Print) -> io::Result<()> {
-    show_compatible(rt, b"Y with P", &Y, &P)?;
-    show_compatible(rt, b"Y with Q", &Y, &Q)?;
-    show_compatible(rt, b"Z with P", &Z, &P)?;
-    show_compatible(rt, b"Z with Q", &Z, &Q)?;
-    show_compatible(rt, b"P with Y", &P, &Y)?;
-    show_compatible(rt, b"P with Z", &P, &Z)?;
-    show_compatible(rt, b"Q with Y", &Q, &Y)?;
-    show_compatible(rt, b"Q with Z", &Q, &Z)?;
-    show_compatible(rt, b"P with P", &P, &P)
+    for (name, new, other) in [
+        ("Y with P", Y, P),
+        ("Y with Q", Y, Q),
+        ("Z with P", Z, P),
+        ("Z with Q", Z, Q),
+        ("P with Y", P, Y),
+        ("P with Z", P, Z),
+        ("Q with Y", Q, Y),
+        ("Q with Z", Q, Z),
+        ("P with P", P, P),
+    ] {
+        show_compatible(rt, name, new, other)?;
+    }
+    Ok(())
 }
 
 pub fn cases(rt: &impl Print) -> io::Result<()> {

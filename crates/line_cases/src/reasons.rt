@@ -5,7 +5,7 @@ use std::io;
 fn kinds_and_counts(rt: &impl Print) -> io::Result<()> {
     verdicts(
         rt,
-        b"sent and received: A = ?(); end . / B = ![]; end .\n\
+        "sent and received: A = ?(); end . / B = ![]; end .\n\
         replies and commands: A = &{a: end} . / B = +{a: end} .\n\
         kinds before counts: A = ?(void); end . / B = ![]; end .\n\
         two items and one: A = ?(void, void); end . / B = ?(void); end .\n\
@@ -17,7 +17,7 @@ fn kinds_and_counts(rt: &impl Print) -> io::Result<()> {
 fn items(rt: &impl Print) -> io::Result<()> {
     verdicts(
         rt,
-        b"third item: A = ?(void, end, string); end . / B = ?(void, end, float); end .\n\
+        "third item: A = ?(void, end, string); end . / B = ?(void, end, float); end .\n\
         fourth item: A = ![void, void, void, float]; end . / B = ![void, void, void, boolean]; end .\n\
         two items differ: A = ?(void, string, float); end . / B = ?(void, float, string); end .\n\
         session against sort: A = ?(void, end); end . / B = ?(void, void); end .\n\
@@ -29,7 +29,7 @@ fn items(rt: &impl Print) -> io::Result<()> {
 fn labels(rt: &impl Print) -> io::Result<()> {
     verdicts(
         rt,
-        b"reply of the new one: A = &{b: end | a: end} . / B = &{a: end | c: end} .\n\
+        "reply of the new one: A = &{b: end | a: end} . / B = &{a: end | c: end} .\n\
         command of the old one: A = +{b: end | a: end} . / B = +{a: end | c: end} .\n\
         first of two missing: A = +{a: end} . / B = +{a: end | c: end | b: end} .\n\
         fewer replies: A = &{a: end} . / B = &{b: end | a: end} .\n\
@@ -42,7 +42,7 @@ fn labels(rt: &impl Print) -> io::Result<()> {
 fn turned(rt: &impl Print) -> io::Result<()> {
     verdicts(
         rt,
-        b"kinds in turn 1: A = ![end]; end . / B = ![?(); end]; end .\n\
+        "kinds in turn 1: A = ![end]; end . / B = ![?(); end]; end .\n\
         counts in turn 1: A = ![?(); end]; end . / B = ![?(void); end]; end .\n\
         items in turn 1: A = ![?(void, string); end]; end . / B = ![?(void, float); end]; end .\n\
         more replies in turn 1: A = ![&{a: end | b: end}]; end . / B = ![&{a: end}]; end .\n\
@@ -55,7 +55,7 @@ fn turned(rt: &impl Print) -> io::Result<()> {
 fn turned_back(rt: &impl Print) -> io::Result<()> {
     verdicts(
         rt,
-        b"fewer commands, turned back: A = ![![+{a: end}]; end]; end . / B = ![![+{a: end | b: end}]; end]; end .\n\
+        "fewer commands, turned back: A = ![![+{a: end}]; end]; end . / B = ![![+{a: end | b: end}]; end]; end .\n\
         more commands, turned back: A = ![![+{a: end | b: end}]; end]; end . / B = ![![+{a: end}]; end]; end .\n\
         fewer commands, received: A = ?(+{a: end}); end . / B = ?(+{a: end | b: end}); end .\n\
         more commands, received: A = ?(+{a: end | b: end}); end . / B = ?(+{a: end}); end .\n\
@@ -66,7 +66,7 @@ fn turned_back(rt: &impl Print) -> io::Result<()> {
 fn compatible(rt: &impl Print) -> io::Result<()> {
     compatibles(
         rt,
-        b"both end: A = end . / B = end .\n\
+        "both end: A = end . / B = end .\n\
         both receive: A = ?(); end . / B = ?(); end .\n\
         one item more is sent: A = ?(); end . / B = ![void]; end .\n\
         another sort is sent: A = ?(void, string); end . / B = ![void, float]; end .\n\

@@ -5,18 +5,23 @@ use crate::texts::{M, N, P, Q, R};
 use std::io;
 
 fn named(rt: &impl Print) -> io::Result<()> {
-    show_verdict(rt, b"R, R", &R, &R)?;
-    show_verdict(rt, b"N, R", &N, &R)?;
-    show_verdict(rt, b"M, R", &M, &R)?;
-    show_verdict(rt, b"R, M", &R, &M)?;
-    show_verdict(rt, b"P, Q", &P, &Q)?;
-    show_verdict(rt, b"Q, P", &Q, &P)
+    for (name, new, old) in [
+        ("R, R", R, R),
+        ("N, R", N, R),
+        ("M, R", M, R),
+        ("R, M", R, M),
+        ("P, Q", P, Q),
+        ("Q, P", Q, P),
+    ] {
+        show_verdict(rt, name, new, old)?;
+    }
+    Ok(())
 }
 
 fn written_out(rt: &impl Print) -> io::Result<()> {
     verdicts(
         rt,
-        b"end and a message: A = end . / B = ?(); end .\n\
+        "end and a message: A = end . / B = ?(); end .\n\
         no item and one: A = ?(); end . / B = ?(void); end .\n\
         string and float: A = ?(string); end . / B = ?(float); end .\n\
         rounds of one and two: A = ?(string); A . / B = ?(string); ?(string); B .\n",
@@ -27,7 +32,7 @@ fn written_out(rt: &impl Print) -> io::Result<()> {
 fn refused(rt: &impl Print) -> io::Result<()> {
     texts(
         rt,
-        b"empty: \n\
+        "empty: \n\
         no full stop: A = end\n\
         no label: A = +{} .\n\
         the wrong bracket closes: A = ![string) .\n\

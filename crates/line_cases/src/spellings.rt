@@ -1,6 +1,6 @@
 // Words with their case, blanks of every kind and none, and bytes that are like blanks and are none.
 use crate::lists::{texts, verdicts};
-use crate::show::show_verdict;
+use crate::show::{show_beside, show_verdict};
 use crate::texts::R;
 use std::io;
 
@@ -8,7 +8,7 @@ use std::io;
 fn case(rt: &impl Print) -> io::Result<()> {
     verdicts(
         rt,
-        b"case of a command: A = +{go: A} . / B = +{Go: B} .\n\
+        "case of a command: A = +{go: A} . / B = +{Go: B} .\n\
         case of a reply: A = &{OK: A} . / B = &{ok: B} .\n\
         both cases in a choice: A = +{a: A | A: end} . / B = +{A: end | a: B} .\n\
         both cases, the other way round: A = +{a: A | A: end} . / B = +{a: end | A: B} .\n\
@@ -23,7 +23,7 @@ fn case(rt: &impl Print) -> io::Result<()> {
 fn refused(rt: &impl Print) -> io::Result<()> {
     texts(
         rt,
-        b"name of the other case: a = A .\n\
+        "name of the other case: a = A .\n\
         sort of the other case: A = ?(String); end .\n\
         end of the other case: A = END .\n\
         reserved as a name: end = end .\n\
@@ -37,52 +37,55 @@ fn refused(rt: &impl Print) -> io::Result<()> {
 
 // "Blank bytes are space, tab, LF and CR."
 fn blanks(rt: &impl Print) -> io::Result<()> {
-    show_verdict(rt, b"spaces", b"  A  =  end  .  ", b"A=end.")?;
-    show_verdict(rt, b"tabs", b"\t\tA\t\t=\t\tend\t\t.\t\t", b"A=end.")?;
-    show_verdict(rt, b"line feeds", b"\n\nA\n\n=\n\nend\n\n.\n\n", b"A=end.")?;
+    for (name, new) in [
+        ("spaces", "  A  =  end  .  "),
+        ("tabs", "\t\tA\t\t=\t\tend\t\t.\t\t"),
+        ("line feeds", "\n\nA\n\n=\n\nend\n\n.\n\n"),
+        ("carriage returns", "\r\rA\r\r=\r\rend\r\r.\r\r"),
+    ] {
+        show_verdict(rt, name, new, "A=end.")?;
+    }
     show_verdict(
         rt,
-        b"carriage returns",
-        b"\r\rA\r\r=\r\rend\r\r.\r\r",
-        b"A=end.",
-    )?;
-    show_verdict(
-        rt,
-        b"old with all four",
-        b"A=end.",
-        b" \t\n\rA \t\n\r= \t\n\rend \t\n\r. \t\n\r",
+        "old with all four",
+        "A=end.",
+        " \t\n\rA \t\n\r= \t\n\rend \t\n\r. \t\n\r",
     )
 }
 
 // A label's place is another in each of the three.
 fn around_tokens(rt: &impl Print) -> io::Result<()> {
-    let none = b"R=+{sum:![string];&{ok:?(float);R|bad:R}|stop:end}.";
+    let none = "R=+{sum:![string];&{ok:?(float);R|bad:R}|stop:end}.";
     let each =
-        b" R\t=\n+\r{ sum\t:\n!\r[ string\t]\n;\r& {\tok\n:\r? (\tfloat\n)\r; R\t|\nbad\r: R\t}\n|\rstop :\tend\n}\r. ";
-    show_verdict(rt, b"R without blanks, R", none, &R)?;
-    show_verdict(rt, b"R, R with a blank around each token", &R, each)?;
+        " R\t=\n+\r{ sum\t:\n!\r[ string\t]\n;\r& {\tok\n:\r? (\tfloat\n)\r; R\t|\nbad\r: R\t}\n|\rstop :\tend\n}\r. ";
+    show_verdict(rt, "R without blanks, R", none, R)?;
+    show_verdict(rt, "R, R with a blank around each token", R, each)?;
     show_verdict(
         rt,
-        b"R with a blank around each token, R without",
+        "R with a blank around each token, R without",
         each,
         none,
     )
 }
 
 // A byte of 128 and more begins no token, and neither do the two bytes of a no-break space in UTF-8, of which the first is named.
+const LIKE_BLANKS: [(&str, &[u8]); 9] = [
+    ("vertical tab", b"A =\x0bend ."),
+    ("form feed", b"A =\x0cend ."),
+    ("byte 0", b"A =\x00end ."),
+    ("byte 133", b"A =\x85end ."),
+    ("no-break space", b"A =\xa0end ."),
+    ("no-break space of two bytes", b"A =\xc2\xa0end ."),
+    ("byte order mark", b"\xef\xbb\xbfA = end ."),
+    ("vertical tab behind the text", b"A = end .\x0b"),
+    ("no-break space behind the text", b"A = end .\xa0"),
+];
+
 fn like_blanks(rt: &impl Print) -> io::Result<()> {
-    texts(
-        rt,
-        b"vertical tab: A =\x0bend .\n\
-        form feed: A =\x0cend .\n\
-        byte 0: A =\x00end .\n\
-        byte 133: A =\x85end .\n\
-        no-break space: A =\xa0end .\n\
-        no-break space of two bytes: A =\xc2\xa0end .\n\
-        byte order mark: \xef\xbb\xbfA = end .\n\
-        vertical tab behind the text: A = end .\x0b\n\
-        no-break space behind the text: A = end .\xa0\n",
-    )
+    for (name, text) in LIKE_BLANKS {
+        show_beside(rt, name, text, "A = end .")?;
+    }
+    Ok(())
 }
 
 pub fn cases(rt: &impl Print) -> io::Result<()> {

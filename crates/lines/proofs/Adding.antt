@@ -4,8 +4,8 @@ use mathlib.Core.List.{List, [], ◌∷◌, ◌++◌, append_assoc, append-nil}
 use mathlib.Core.Path.{◌≡◌, refl, sym, ap, ap₂, ◌∙◌}
 use Prim.Native.Nat.{ℕ, suc, ◌+◌, ◌-◌, ◌/◌, ◌%◌, ◌<◌, ◌≤◌}
 use native.Mathlib.Omega.{arith}
-use lib.ListN.{length, take, drop, set, get_or, length-append}
-use lib.Seq.{sets, length-sets, sets-eq, take-suc, take-add}
+use lib.ListN.{length, take, drop, take-append-drop, set, get_or, length-append}
+use lib.Seq.{drop-drop, sets, length-sets, sets-eq, take-suc}
 use Rattle.rules.specs.Basics.{bytes}
 use Rattle.rules.specs.Line.{digits, field, fields, line}
 use Rattle.rules.proofs.Digits.{digits_more}
@@ -38,25 +38,16 @@ module _ {xs ys : List ℕ} {at r : ℕ} {u : List ℕ} (A : Adds xs at u ys r) 
   pub adds_as : {v : List ℕ} → u ≡ v → Adds xs at v ys r
   adds_as e = rw e at A
 
+-- a word copied into its place
+pub adds_part :
+    (xs w : List ℕ) (at : ℕ) {ys : List ℕ} → ys ≡ w → at + length w ≤ length xs
+    → Adds xs at w (take at xs ++ (ys ++ drop (at + length w - at) (drop at xs))) (at + length w)
+adds_part xs w at e room =
+    let n : at + length w - at ≡ length w = omega arith in
+    record { placed = rw (e, n, drop-drop (length w) at xs) (sym (sets-eq w xs at room ∙ append_assoc (take at xs) w (drop (at + length w) xs))); behind = refl }
+
 pub digits_longer : (k : ℕ) → 10 ≤ k → length (digits (suc k) k) ≡ length (digits (suc (k / 10)) (k / 10)) + 1
 digits_longer k l = ap length (digits_more k l) ∙ length-append (digits (suc (k / 10)) (k / 10)) ((48 + k % 10) ∷ [])
-
--- one byte more of a word
-pub adds_next :
-    {xs ys : List ℕ} {at : ℕ} (word : List ℕ) (i : ℕ) → i < length word → Adds xs at (take i word) ys (at + i)
-    → Adds xs at (take (i + 1) word) (set ys (at + i) (get_or word i 0)) (at + (i + 1))
-adds_next {xs} {ys} {at} word i l A =
-    let e : take (i + 1) word ≡ take i word ++ (get_or word i 0 ∷ []) =
-    let p : i + 1 ≡ suc i = omega arith in rw p (take-suc word i 0 l) in
-    let n : at + (i + 1) ≡ (at + i) + 1 = omega arith in
-    rw (n, e) (adds_then A (adds_byte ys (at + i) (get_or word i 0)))
-
--- one field more at the front, or at the end
-pub adds_field :
-    {xs ys zs : List ℕ} {at r s : ℕ} (k : ℕ) (ks : List ℕ) → Adds xs at (field k) ys r → Adds ys r (fields ks) zs s
-    → Adds xs at (fields (k ∷ ks)) zs s
-unfolding fields
-adds_field k ks A B = adds_then A B
 
 pub no-fields : (xs : List ℕ) (at : ℕ) → Adds xs at (fields []) xs at
 unfolding fields
@@ -78,16 +69,16 @@ module _ {xs ys : List ℕ} {at r : ℕ} (path : List ℕ) {i : ℕ} (A : Adds x
       let e : i + 1 ≡ suc i = omega arith in
       rw (e, take-suc path i 0 l, fields-append (take i path) (get_or path i 0 ∷ []), one_field (get_or path i 0), ← this) (adds_then A B)
 
-  pub room_step : (n : ℕ) → i < n → n ≤ length path → at + length (fields (take n path)) ≤ length xs → r + length (field k) ≤ length ys
-  room_step n l m room =
-      let rest = take (n - suc i) (drop (suc i) path) in
-      let p : suc i + (n - suc i) ≡ n = omega arith in
-      let e : take n path ≡ (take i path ++ (get_or path i 0 ∷ [])) ++ rest =
-      (rw p at (take-add (suc i) (n - suc i) path)) ∙ ap (λ (l : List ℕ). l ++ rest) (take-suc path i 0 (omega arith)) in
-      let parts : length (fields (take n path)) ≡ length (fields (take i path)) + length (field k) + length (fields rest) =
-      rw (e, fields-append (take i path ++ (get_or path i 0 ∷ [])) rest, fields-append (take i path) (get_or path i 0 ∷ []), one_field (get_or path i 0), ← this)
+  pub room_step : i < length path → at + length (fields path) ≤ length xs → r + length (field k) ≤ length ys
+  room_step l room =
+      let rest = drop (suc i) path in
+      let e : path ≡ (take i path ++ (get_or path i 0 ∷ [])) ++ rest =
+      sym (take-append-drop (suc i) path) ∙ ap (λ (m : List ℕ). m ++ rest) (take-suc path i 0 l) in
+      let parts : length (fields path) ≡ length (fields (take i path)) + length (field k) + length (fields rest) =
+      ap (λ (m : List ℕ). length (fields m)) e
+      ∙ (rw (fields-append (take i path ++ (get_or path i 0 ∷ [])) rest, fields-append (take i path) (get_or path i 0 ∷ []), one_field (get_or path i 0), ← this)
       (length-append (fields (take i path) ++ field k) (fields rest)
-      ∙ ap (λ (j : ℕ). j + length (fields rest)) (length-append (fields (take i path)) (field k))) in
+      ∙ ap (λ (j : ℕ). j + length (fields rest)) (length-append (fields (take i path)) (field k)))) in
       omega (arith, room, parts, A.behind, adds_length A)
 
 -- a word, its fields and the line feed

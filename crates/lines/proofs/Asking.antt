@@ -1,6 +1,5 @@
 -- From what is read and judged on the way to the reply: the laws that the functions of lib.rt cite, one for each reply.
 -- Assumes nothing.
-use mathlib.Core.Bool.{Bool, true, false}
 use mathlib.Core.List.{List}
 use mathlib.Core.Path.{◌≡◌, refl, sym, ap}
 use Prim.Native.Nat.{ℕ, ◌*◌, ◌<◌, ◌≤◌}
@@ -8,10 +7,10 @@ use native.Mathlib.Nat.{mul-zero, zero-mul}
 use native.Mathlib.Omega.{arith}
 use lib.ListN.{length, drop, length-append}
 use Rattle.rules.specs.Numbers.{table_nodes_most}
-use Rattle.rules.specs.Refusals.{area_too_short}
-use Rattle.rules.specs.Line.{Question, against, Answers, first_refused, second_refused, refused_line}
-use Rattle.rules.specs.Replies.{Areas, Reads, accepts, refuses, Replaces, NoRefusal, made, refused, dual_reply}
-use Rattle.rules.specs.Writing.{LineAreas, Counts, lengths, AllLong, LeastShort, marks_short, path_short, scratch_short, line_short, WritesLine, refuses as refuses_area, writes, line_size}
+use Rattle.std.specs.Prelude.{Result, Ok, Err, ⊤}
+use Rattle.rules.specs.Line.{against, Answers, first_refused, second_refused}
+use Rattle.rules.specs.Replies.{Areas, Reads, accepts, refuses, Replaces, NoRefusal, made, refusal, refused, dual_reply}
+use Rattle.rules.specs.Writing.{LineAreas, Counts, lengths, AllLong, LeastShort, line_short, WritesLine, refuses as refuses_area, writes, line_size}
 use Rattle.rules.specs.computed.Line.{verdict_line}
 use Rattle.rules.specs.computed.Reading.{reading}
 use Rattle.rules.proofs.Agreement.{reads_reading}
@@ -21,40 +20,31 @@ use Rattle.rules.proofs.ReadTables.{read_few}
 use Rattle.rules.proofs.Replies.{no_means}
 use Rattle.rules.proofs.TextDual.{blank-against, text_dual_given, against_few}
 use Rattle.table.specs.declared.Table.{Table}
-use Rattle.table.specs.declared.answers.Answer.TheVariants as answer
 use Rattle.table.specs.declared.answers.Found.{Found}
 use Rattle.table.specs.declared.answers.Made.{Made}
 use Rattle.table.specs.declared.answers.Verdict.{Verdict}
 use Rattle.table.specs.declared.answers.Verdict.TheVariants as the
-use Rattle.table.specs.declared.answers.Written.{Written}
-use Rattle.table.specs.declared.answers.Written.TheVariants as written
+use Rattle.table.specs.declared.answers.Question.{Question}
+use Rattle.table.specs.declared.answers.Question.TheVariants.{IsCompatible}
+use Rattle.table.specs.declared.answers.Refusal.{Refusal}
+use Rattle.table.specs.declared.answers.RefusalKind.TheVariants as kind
 use Rattle.lines.specs.Adding.{Adds, StepsInPath}
-use Rattle.lines.specs.Asking.{asked, Checked, all_long, short, WritesRefusal, too_short, written as refusal_written}
+use Rattle.lines.specs.Asking.{line_of, Checked, all_long, short, WritesRefusal, too_short, written as refusal_written}
 use Rattle.lines.proofs.Adding.{at_front, front_length}
 
--- an answer is one of the two
-apart : {n p : ℕ} → answer.Accepted ≡ answer.Refused n p → ⊥
-apart e = let z : ◌≡◌ {A = ℕ} 0 1 = cc in omega arith
-
 -- what was read, by the answer beside the table
-pub read_accepted : {s : List ℕ} {m : Made} → Reads s m → m.answer ≡ answer.Accepted → Reads s (made m.table)
+pub read_accepted : {s : List ℕ} {m : Made} {v : ⊤} → Reads s m → m.answer ≡ Ok v → Reads s (made m.table)
 read_accepted (accepts w f) e = accepts w f
-read_accepted (refuses f g) e = absurd (apart (sym e))
+read_accepted (refuses f g) e = absurd cc
 
-pub read_refused : {s : List ℕ} {m : Made} {n p : ℕ} → Reads s m → m.answer ≡ answer.Refused n p → Reads s (refused n p)
-read_refused (accepts w f) e = absurd (apart e)
-read_refused (refuses {n = k} {p = q} f g) e = let a = numbers e in rw (← a.0, ← a.1) (refuses f g)
-  where
-    numbers : {k q n p : ℕ} → answer.Refused k q ≡ answer.Refused n p → (k ≡ n) × (q ≡ p)
-    numbers e = (cc, cc)
+pub read_refused : {s : List ℕ} {m : Made} {r : Refusal} → Reads s m → m.answer ≡ Err r → Reads s (refused r.kind r.place)
+read_refused (accepts w f) e = absurd cc
+read_refused {r} (refuses {k} {p} f g) e = let a : refusal k p ≡ r = cc in rw (← a) (refuses f g)
 
--- the table that new is held against
-pub against_itself : (b : Bool) (t : Table) → b ≡ false → t ≡ against (asked b) t
-against_itself b t e = rw e refl
-
+-- the table that new is held against: a text's table has a dual
 pub against-dual :
-    {s : List ℕ} {t : Table} {d : Made} (b : Bool) → Reads s (made t) → b ≡ true → d ≡ dual_reply t s → d.table ≡ against (asked b) t
-against-dual b R e p = rw (e, p, text_dual_given R) refl
+    {s : List ℕ} {t : Table} {d : Made} → Reads s (made t) → d ≡ dual_reply t s → d.table ≡ against IsCompatible t
+against-dual R p = rw (p, text_dual_given R) refl
 
 -- Both texts were read: x is the table of the new one, and y is what it is held against.
 pub record Both (q : Question) (new_text old_text : List ℕ) (x y : Table) : Type 0 where
@@ -64,17 +54,16 @@ pub record Both (q : Question) (new_text old_text : List ℕ) (x y : Table) : Ty
   pub against_it : y ≡ against q other
 
 pub both_read :
-    {new_text old_text : List ℕ} {first second : Made} {y : Table} (b : Bool) → Reads new_text first × Reads old_text second
-    → first.answer ≡ answer.Accepted → second.answer ≡ answer.Accepted → y ≡ against (asked b) second.table
-    → Both (asked b) new_text old_text first.table y
-both_read {second} b R f g e =
+    {q : Question} {new_text old_text : List ℕ} {first second : Made} {y : Table} {v w : ⊤} → Reads new_text first × Reads old_text second
+    → first.answer ≡ Ok v → second.answer ≡ Ok w → y ≡ against q second.table → Both q new_text old_text first.table y
+both_read {second} R f g e =
     record { other = second.table; new_read = read_accepted R.0 f; old_read = read_accepted R.1 g; against_it = e }
 
 -- The reply for a refused text. It has no nodes, so that nothing is asked of the areas but that the line has room.
-module _ {number which place : ℕ} {before after : List ℕ} where
+module _ {f : Refusal} {which : ℕ} {before after : List ℕ} where
   pub refusal_put :
-      {r : ℕ} → line_size 0 0 ≤ length before → length (refused_line number which place) ≤ length before
-      → Adds before 0 (refused_line number which place) after r → WritesRefusal number which place before after (written.Line r)
+      {r : ℕ} → line_size 0 0 ≤ length before → length (line_of f which) ≤ length before
+      → Adds before 0 (line_of f which) after r → WritesRefusal f which before after (Ok r)
   refusal_put l m A = rw (front_length A) (refusal_written l (at_front A m))
 
 no_pairs_new : (k m : ℕ) → k * 0 * m ≡ 0
@@ -94,19 +83,20 @@ module _ (before : LineAreas) {n m : ℕ} (none : (k : ℕ) → k * n * m ≡ 0)
       }
 
   refused_reply :
-      {q : Question} {new_text old_text : List ℕ} {after : LineAreas} {number which place : ℕ} {r : Written} → Counts q new_text old_text n m
-      → after.lent ≡ before.lent → Answers q new_text old_text before.lent after.lent (refused_line number which place)
-      → WritesRefusal number which place before.line after.line r → WritesLine q new_text old_text before after r
+      {q : Question} {new_text old_text : List ℕ} {after : LineAreas} {f : Refusal} {which : ℕ} {r : Result ℕ Refusal}
+      → Counts q new_text old_text n m → after.lent ≡ before.lent
+      → Answers q new_text old_text before.lent after.lent (line_of f which) → WritesRefusal f which before.line after.line r
+      → WritesLine q new_text old_text before after r
   refused_reply C same A (too_short l e) = refuses_area C (nothing_short l) (λ i. record { lent = same i; line = e i })
   refused_reply C same A (refusal_written l e) = writes C (nothing_long l) A e
 
-module _ {q : Question} {new_text old_text : List ℕ} {before after : LineAreas} {n p : ℕ} {r : Written} (same : after.lent ≡ before.lent) where
+module _ {q : Question} {new_text old_text : List ℕ} {before after : LineAreas} {f : Refusal} {r : Result ℕ Refusal} (same : after.lent ≡ before.lent) where
   pub first_reply :
-      Reads new_text (refused n p) → WritesRefusal n 1 p before.line after.line r → WritesLine q new_text old_text before after r
+      Reads new_text (refused f.kind f.place) → WritesRefusal f 1 before.line after.line r → WritesLine q new_text old_text before after r
   first_reply R W =
       refused_reply before (λ k. no_pairs_new k (against q (reading old_text).table).count)
       (record {
-        first = refused n p;
+        first = refused f.kind f.place;
         second = reading old_text;
         first_read = R;
         second_read = reads_reading old_text;
@@ -116,13 +106,13 @@ module _ {q : Question} {new_text old_text : List ℕ} {before after : LineAreas
       same (first_refused R same) W
 
   pub second_reply :
-      {new : Table} → Reads new_text (made new) → Reads old_text (refused n p) → WritesRefusal n 2 p before.line after.line r
+      {new : Table} → Reads new_text (made new) → Reads old_text (refused f.kind f.place) → WritesRefusal f 2 before.line after.line r
       → WritesLine q new_text old_text before after r
   second_reply {new} N R W =
       refused_reply before (λ k. mul-zero (k * new.count))
       (record {
         first = made new;
-        second = refused n p;
+        second = refused f.kind f.place;
         first_read = N;
         second_read = R;
         new_count = refl;
@@ -147,21 +137,18 @@ module _ {q : Question} {new_text old_text : List ℕ} {x y : Table} (B : Both q
   both_few = (omega (arith, read_few B.new_read), rw B.against_it (against_few B.old_read q))
 
   pub short_reply :
-      {before : LineAreas} {p : ℕ} → Checked x.count y.count (lengths before) p → (p ≡ 0 → ⊥)
-      → WritesLine q new_text old_text before before (written.Refused area_too_short p)
-  short_reply (all_long l) f = absurd (f refl)
-  short_reply (short l) f = refuses_area counts l refl
+      {before : LineAreas} {c : Result ⊤ Refusal} {f : Refusal} → Checked x.count y.count (lengths before) c → c ≡ Err f
+      → WritesLine q new_text old_text before before (Err f)
+  short_reply (all_long l) e = absurd cc
+  short_reply {f} (short {p} l) e = let a : refusal kind.AreaTooShort p ≡ f = cc in rw (← a) (refuses_area counts l refl)
 
-  module _ (before : LineAreas) {p : ℕ} (K : Checked x.count y.count (lengths before) p) (z : p ≡ 0) where
+  module _ (before : LineAreas) {c : Result ⊤ Refusal} (K : Checked x.count y.count (lengths before) c) {u : ⊤} (z : c ≡ Ok u) where
     long : AllLong x.count y.count (lengths before)
     long = go K z
       where
-        go : {p : ℕ} → Checked x.count y.count (lengths before) p → p ≡ 0 → AllLong x.count y.count (lengths before)
+        go : {c : Result ⊤ Refusal} → Checked x.count y.count (lengths before) c → c ≡ Ok u → AllLong x.count y.count (lengths before)
         go (all_long l) e = l
-        go (short (marks_short a)) e = absurd (omega arith)
-        go (short (path_short a b)) e = absurd (omega arith)
-        go (short (scratch_short a b c)) e = absurd (omega arith)
-        go (short (line_short a b c d)) e = absurd (omega arith)
+        go (short l) e = absurd cc
 
     -- nothing stands in the way of a verdict
     pub no_refusal : NoRefusal x new_text y old_text before.lent
@@ -170,7 +157,7 @@ module _ {q : Question} {new_text old_text : List ℕ} {x y : Table} (B : Both q
         (texts_not_refused q B.new_read B.old_read (rw B.against_it at long).marks_long (rw B.against_it at long).path_long
         (rw B.against_it at long).scratch_long)
 
-    module _ (after : Areas) {v : Verdict} (R : Replaces x new_text y old_text before.lent after v) where
+    module _ (after : Areas) {v : Verdict} (R : Replaces x new_text y old_text before.lent after (Ok v)) where
       answers : Answers q new_text old_text before.lent after (verdict_line v after.path)
       answers =
           verdict_answers q B.new_read B.old_read (rw B.against_it at no_refusal) v after (rw B.against_it at R)
@@ -178,15 +165,14 @@ module _ {q : Question} {new_text old_text : List ℕ} {x y : Table} (B : Both q
       pub verdict_fits : StepsInPath v after.path × (length (verdict_line v after.path) ≤ length before.line)
       verdict_fits = (go v R, omega (arith, line_length counts answers, long.line_long))
         where
-          go : (v : Verdict) → Replaces x new_text y old_text before.lent after v → StepsInPath v after.path
+          go : (v : Verdict) → Replaces x new_text y old_text before.lent after (Ok v) → StepsInPath v after.path
           go (the.Yes c) R = tt
           go (the.No f) R =
               let X = (no_means R).1 in
               let e : f.steps ≡ length X.run = ap (λ (g : Found). g.steps) X.returned in
               omega (arith, e, ap length X.path, length-append X.run (drop (length X.run) before.lent.path))
-          go (the.Refused n p) R = tt
 
       pub verdict_reply :
           {line : List ℕ} {r : ℕ} → Adds before.line 0 (verdict_line v after.path) line r
-          → WritesLine q new_text old_text before (record { lent = after; line = line }) (written.Line r)
+          → WritesLine q new_text old_text before (record { lent = after; line = line }) (Ok r)
       verdict_reply A = rw (front_length A) (writes counts long answers (at_front A verdict_fits.1))

@@ -6,7 +6,7 @@ use Prim.Native.Nat.{ℕ, ◌≤◌}
 use native.Mathlib.Omega.{arith}
 use lib.ListN.{length, take, drop, length-append}
 use lib.Seq.{length-take-le}
-use Rattle.rules.specs.Line.{Question}
+use Rattle.table.specs.declared.answers.Question.{Question}
 use Rattle.rules.specs.Writing.{PrintsInto}
 
 module _ {q : Question} {input before after : List ℕ} {r : ℕ} (P : PrintsInto q input before after r) where

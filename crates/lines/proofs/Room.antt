@@ -1,12 +1,12 @@
 -- The room for the fields that are still to come, and what is behind them.
 -- Assumes nothing.
-use mathlib.Core.List.{List, ◌∷◌, ◌++◌}
+use mathlib.Core.List.{List, ◌++◌}
 use mathlib.Core.Path.{ap, sym, ◌∙◌}
 use Prim.Native.Nat.{ℕ, ◌+◌, ◌<◌, ◌≤◌}
 use native.Mathlib.Omega.{arith}
 use lib.ListN.{length, length-append}
-use Rattle.rules.specs.Line.{field, fields, line}
-use Rattle.rules.proofs.LineLength.{line_parts, fields_more}
+use Rattle.rules.specs.Line.{fields, line}
+use Rattle.rules.proofs.LineLength.{line_parts}
 use Rattle.lines.specs.Adding.{Adds}
 use Rattle.lines.proofs.Adding.{adds_length, adds_then, adds_as, fields-append}
 
@@ -22,15 +22,7 @@ pub word_room : (xs w ks : List ℕ) → length (line w ks) ≤ length xs → 0 
 word_room xs w ks l = omega (arith, l, line_parts w ks)
 
 module _ {xs : List ℕ} {at t : ℕ} where
-  -- the next field
-  pub room_field : {k : ℕ} {ks : List ℕ} → Room xs at (k ∷ ks) t → at + length (field k) ≤ length xs
-  room_field {k} {ks} R = omega (arith, R.room, fields_more k ks)
-
-  -- and what is left behind it
-  pub room_rest : {k : ℕ} {ks : List ℕ} {ys : List ℕ} {r : ℕ} → Room xs at (k ∷ ks) t → Adds xs at (field k) ys r → Room ys r ks t
-  room_rest {k} {ks} R A = record { room = omega (arith, R.room, fields_more k ks, A.behind, adds_length A) }
-
-  -- the same for some fields at once
+  -- some of the fields at once, and what is left behind them
   pub room_some : (js ks : List ℕ) → Room xs at (js ++ ks) t → at + length (fields js) ≤ length xs
   room_some js ks R = omega (arith, R.room, ap length (fields-append js ks) ∙ length-append (fields js) (fields ks))
 

@@ -1,41 +1,46 @@
 -- The two texts of an input are its parts before and behind the first byte 0.
 -- Assumes nothing.
-use mathlib.Core.Bool.{Bool, true, false}
-use mathlib.Core.Path.{◌≡◌, refl, sym, ◌∙◌}
-use mathlib.Core.List.{List, []}
-use Prim.Native.Nat.{ℕ, ◌+◌, ◌-◌, ◌<◌, ◌≤◌}
-use native.Mathlib.Omega.{arith}
-use lib.Dec.{ltb}
-use lib.ListN.{length, take, drop, drop_of_length-le}
-use lib.Seq.{take_all, length-take-le}
-use borrow.Author.Tests.{ltb-true, ltb-false}
+use Rattle.std.proofs.Common.{◌≡◌, ℕ, Bool, true, false, not, cond, List, [], Some, None, ◌≤◌, ◌+◌, ◌-◌, ◌==◌, refl, sym, ap, ◌∙◌, arith}
+use Rattle.std.specs.List.{position, position_or_len}
+use Rattle.std.proofs.lemmas.List.Quantifiers.{position-Some}
+use Rattle.std.proofs.lemmas.List.Sums.{prefix_len_passes}
+use mathlib.Core.Bool.{false≢true}
+use borrow.Author.Tests.{eqb-true, eq-eqb, ltb-false}
 use borrow.Author.Rules.{part_to_end}
+use lib.ListN.{length, take, drop, get_or, drop_of_length-le}
 use Rattle.rules.specs.Line.{first_text, second_text}
 use Rattle.rules.proofs.Split.{split_at, split_none}
-use Rattle.lines.specs.Asking.{SplitsAt}
 
-module _ {s : List ℕ} {k : ℕ} (S : SplitsAt s k) where
-  pub first_long : k ≡ length (take k s)
-  first_long = sym (length-take-le k s S.within)
+-- the test that looks for it
+abbrev is_zero : ℕ → Bool
+is_zero b = b == 0
 
-  -- there is no byte 0, or it stands at k
-  none : k ≡ length s → (first_text s ≡ s) × (second_text s ≡ [])
-  none e = split_none s (λ j l. S.none_before j (omega (arith, e, l)))
+module _ (s : List ℕ) {k : ℕ} (e : position is_zero s ≡ Some k) where
+  here : (first_text s ≡ take k s) × (second_text s ≡ drop (k + 1) s)
+  here =
+      let p = position-Some is_zero s k 0 e in
+      split_at s k p.0 (λ j l h. false≢true (sym (p.2 j l) ∙ eq-eqb _ _ h)) (eqb-true _ _ p.1)
 
-  here : k < length s → (first_text s ≡ take k s) × (second_text s ≡ drop (k + 1) s)
-  here l = split_at s k l S.none_before (S.zero_there l)
+  pub before_zero : take k s ≡ first_text s
+  before_zero = sym here.0
 
-  pub first_is : first_text s ≡ take k s
-  first_is = go (ltb k (length s)) refl
-    where
-      go : (b : Bool) → ltb k (length s) ≡ b → first_text s ≡ take k s
-      go true e = (here (ltb-true _ _ e)).0
-      go false e =
-          let l : length s ≤ k = ltb-false _ _ e in
-          (none (omega (arith, l, S.within))).0 ∙ sym (take_all k s (omega (arith, l)))
+  pub behind_zero : take (length s - (k + 1)) (drop (k + 1) s) ≡ second_text s
+  behind_zero = part_to_end s (k + 1) ∙ sym here.1
 
-  pub second_none : k ≡ length s → take (length s - k) (drop k s) ≡ second_text s
-  second_none e = part_to_end s k ∙ drop_of_length-le s {i = k} (omega (arith, e)) ∙ sym (none e).1
+-- where it is not found, the count of what comes before it is no position
+none_found : (b : Bool) (n : ℕ) → cond b (Some n) None ≡ None → b ≡ false
+none_found true n q = absurd cc
+none_found false n q = refl
 
-  pub second_here : (k ≡ length s → ⊥) → take (length s - (k + 1)) (drop (k + 1) s) ≡ second_text s
-  second_here n = part_to_end s (k + 1) ∙ sym (here (omega (arith, S.within, n))).1
+module _ (s : List ℕ) (e : position is_zero s ≡ None) where
+  none : (first_text s ≡ s) × (second_text s ≡ [])
+  none =
+      let n : length s ≤ position_or_len is_zero s = ltb-false _ _ (none_found _ _ e) in
+      split_none s
+      (λ j l h. false≢true (sym (ap not (eq-eqb (get_or s j 0) 0 h)) ∙ prefix_len_passes (λ x. not (is_zero x)) s j 0 (omega arith)))
+
+  pub first_whole : s ≡ first_text s
+  first_whole = sym none.0
+
+  pub second_empty : take (length s - length s) (drop (length s) s) ≡ second_text s
+  second_empty = part_to_end s (length s) ∙ drop_of_length-le s {i = length s} (omega arith) ∙ sym none.1

@@ -19,4 +19,3 @@ found_fields f = f.reason ∷ f.detail ∷ f.new ∷ f.old ∷ f.turn ∷ []
 abbrev pub StepsInPath : Verdict → List ℕ → Type 0
 StepsInPath (the.Yes c) path = Unit {0}
 StepsInPath (the.No f) path = f.steps ≤ length path
-StepsInPath (the.Refused n p) path = Unit {0}

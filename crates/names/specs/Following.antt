@@ -1,10 +1,11 @@
 -- Where names lead, told by the areas of ../../flat alone: a use to the definition that it names, a definition to a node.
 -- Assumes nothing.
-use Rattle.std.specs.Prelude.{true, false, List, ◌≡◌, ℕ, zero, suc, ◌+◌, ◌-◌, ◌*◌, ◌<◌, ◌≤◌, leb, ltb, length, get_or}
+use Rattle.std.specs.Prelude.{Option, true, false, List, ◌≡◌, ℕ, zero, suc, ◌+◌, ◌-◌, ◌*◌, ◌<◌, ◌≤◌, leb, ltb, length, get_or}
 use Rattle.rules.specs.Basics.{part, first}
 use Rattle.rules.specs.Numbers.{text_most, definitions_most}
 use Rattle.rules.specs.Words.{word_byte}
 use Rattle.rules.proofs.TokensBehind.{past}
+use Rattle.words.specs.Found.{found}
 use Rattle.flat.specs.Flat.{row, a_use, word_found}
 
 -- the word that use i names: it begins at the use's place and goes as far as word bytes do
@@ -36,13 +37,19 @@ pub record Written (f : ℕ → ℕ) (m count : ℕ) (before after : List ℕ) (
   pub long : length after ≡ length before
   pub within : (k : ℕ) → m ≤ k → ((i : ℕ) → get_or before i 0 < k) → (i : ℕ) → get_or after i 0 < k
 
+-- the same, with an answer that is `None` where the number of each position is below m
+pub record WrittenAs (f : ℕ → ℕ) (m count : ℕ) (before after : List ℕ) (r : Option ℕ) : Type 0 where
+  pub reached : ℕ
+  pub written : Written f m count before after reached
+  pub answered : r ≡ found count reached
+
 -- of the uses b, r is the first that names none of the n definitions; what each use before it names is written
-abbrev pub OwnersFound : List ℕ → List ℕ → ℕ → List ℕ → ℕ → List ℕ → List ℕ → ℕ → Type 0
-OwnersFound s b uses d n before after r = Written (owner s d n b) n uses before after r
+abbrev pub OwnersFound : List ℕ → List ℕ → ℕ → List ℕ → ℕ → List ℕ → List ℕ → Option ℕ → Type 0
+OwnersFound s b uses d n before after r = WrittenAs (owner s d n b) n uses before after r
 
 -- of the n definitions, r is the first that leads to no node; the node that each one before it leads to is written
-abbrev pub EndsFound : List ℕ → List ℕ → ℕ → List ℕ → List ℕ → ℕ → Type 0
-EndsFound d owners n before after r = Written (leads d owners n) a_use n before after r
+abbrev pub EndsFound : List ℕ → List ℕ → ℕ → List ℕ → List ℕ → Option ℕ → Type 0
+EndsFound d owners n before after r = WrittenAs (leads d owners n) a_use n before after r
 
 -- each of the n definitions links to a node, or to a use that names one of them
 pub record Followable (d owners : List ℕ) (n : ℕ) : Type 0 where

@@ -6,111 +6,78 @@
 ghost use Rattle.std.specs.Prelude.{◌≡◌, ◌+◌};
 ghost use Rattle.rules.specs.Tables.{is_message, is_choice, item_count, label_count, continuation, item_at, label_at, spelling, spelling_at};
 
-use table::{ITEMS_MOST, Item, Kind, LABELS_MOST, Label, Node, Sort};
+use table::{Item, Kind, Label, Node, Slot};
 
 pub fn is_message(k: Kind) -> bool
     ensures { result ≡ is_message k }
 {
-    match k {
-        Kind::End => false,
-        Kind::Receive => true,
-        Kind::Send => true,
-        Kind::Branch => false,
-        Kind::Choose => false,
-    }
+    matches!(k, Kind::Receive | Kind::Send)
 }
 
 pub fn is_choice(k: Kind) -> bool
     ensures { result ≡ is_choice k }
 {
-    match k {
-        Kind::End => false,
-        Kind::Receive => false,
-        Kind::Send => false,
-        Kind::Branch => true,
-        Kind::Choose => true,
-    }
+    matches!(k, Kind::Branch | Kind::Choose)
 }
 
-pub fn item_count(x: Node) -> usize
-    ensures { result ≡ item_count x }
+pub fn item_count(x: &Node) -> usize
+    ensures { result ≡ item_count x.now }
 {
-    let k = x.kind;
-    if is_message(k) {
-        x.item_count as usize
+    if is_message(x.kind) {
+        x.item_count.into()
     } else {
         0
     }
 }
 
-pub fn label_count(x: Node) -> usize
-    ensures { result ≡ label_count x }
+pub fn label_count(x: &Node) -> usize
+    ensures { result ≡ label_count x.now }
 {
-    let k = x.kind;
-    if is_choice(k) {
-        x.label_count as usize
+    if is_choice(x.kind) {
+        x.label_count.into()
     } else {
         0
     }
 }
 
-pub fn continuation(x: Node) -> u8
-    ensures { result ≡ continuation x }
+pub fn continuation(x: &Node) -> u8
+    ensures { result ≡ continuation x.now }
 {
-    let k = x.kind;
-    if is_message(k) { x.next } else { 0 }
+    if is_message(x.kind) { x.next } else { 0 }
 }
 
 // The item at a position of the list; past the list's room the blank one.
-pub fn item_at(x: Node, i: usize) -> Item
-    ensures { result ≡ item_at x i }
+pub fn item_at(x: &Node, i: usize) -> Item
+    ensures { result ≡ item_at x.now i }
 {
-    if ITEMS_MOST <= i {
-        return Item::OfSort(Sort::String);
-    }
-    let slot = x.items[i];
-    slot.item
+    x.items.get(i).copied().unwrap_or(Slot::BLANK).item
 }
 
 // The label at a position of the list; past the list's room the blank one.
-pub fn label_at(x: Node, i: usize) -> Label
-    ensures { result ≡ label_at x i }
+pub fn label_at(x: &Node, i: usize) -> Label
+    ensures { result ≡ label_at x.now i }
 {
-    if LABELS_MOST <= i {
-        return Label {
-            at: 0,
-            len: 0,
-            to: 0,
-        };
-    }
-    x.labels[i]
+    x.labels.get(i).copied().unwrap_or(Label::BLANK)
 }
 
 // Where a label's bytes end, whether or not the name bytes reach so far.
 pub fn label_end(l: Label) -> usize
     ensures { result ≡ l.at + l.len }
 {
-    l.at as usize + l.len as usize
+    usize::from(l.at) + usize::from(l.len)
 }
 
 // A label's bytes: the part of the name bytes that it claims, cut where they end.
 pub fn spelling(names: &[u8], l: Label) -> &[u8]
     ensures { result.now ≡ spelling names.now l }
 {
-    let at = l.at as usize;
-    let e = label_end(l);
-    if e <= names.len() {
-        return &names[at..e];
-    }
-    if at <= names.len() {
-        return &names[at..];
-    }
-    let end = names.len();
-    &names[end..]
+    let e = label_end(l).min(names.len());
+    let at = usize::from(l.at).min(e);
+    &names[at..e]
 }
 
-pub fn spelling_at(names: &[u8], x: Node, i: usize) -> &[u8]
-    ensures { result.now ≡ spelling_at x names.now i }
+pub fn spelling_at<'a>(names: &'a [u8], x: &Node, i: usize) -> &'a [u8]
+    ensures { result.now ≡ spelling_at x.now names.now i }
 {
     spelling(names, label_at(x, i))
 }

@@ -1,4 +1,5 @@
 -- Laws that the functions' proofs cite.
-pub mod Comparing
+pub mod SameKind
+pub mod Firsts
 pub mod Labels
-pub mod Steps
+pub mod Comparing

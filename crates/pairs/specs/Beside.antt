@@ -1,19 +1,17 @@
 -- What the functions of two nodes ask and answer, where it is no definition of `rules` alone.
 -- Assumes nothing.
-use Rattle.std.specs.Prelude.{false, true, List, ◌≡◌, ℕ, ◌<◌, ◌≤◌, get_or}
-use Rattle.rules.specs.Basics.{same}
+use Rattle.std.specs.Prelude.{Bool, false, true, List, Option, None, Some, Result, Ok, Err, ◌≡◌, ℕ, ◌<◌, ◌≤◌, get_or}
+use Rattle.std.specs.Option.{MatchOption}
 use Rattle.rules.specs.Numbers.{items_most, labels_most}
 use Rattle.rules.specs.Tables.{blank_label, item_count, label_count, spelling, spelling_at}
-use Rattle.rules.specs.Pairs.{position, label_lacking, mismatch_of, choice_step, step_of}
+use Rattle.rules.specs.Pairs.{Wrong, position, label_lacking, mismatch_of, choice_step, step_of}
 use Rattle.rules.specs.Pairs as rules
 use Rattle.table.specs.declared.Kind.{Kind}
 use Rattle.table.specs.declared.Kind.TheVariants.{End, Receive, Send, Branch, Choose}
 use Rattle.table.specs.declared.Label.{Label}
 use Rattle.table.specs.declared.Node.{Node}
-use Rattle.table.specs.declared.answers.Mismatch.TheVariants.{Nothing}
-use Rattle.pairs.specs.declared.Compared.{Compared}
+use Rattle.table.specs.declared.answers.Mismatch.{Mismatch}
 use Rattle.pairs.specs.declared.Onward.{Onward}
-use Rattle.pairs.specs.declared.Onward.TheVariants.{Onto, Nowhere}
 
 -- what is asked of a node: its lists are within their limits, and a label stands once in its list
 pub record Listed (names : List ℕ) (x : Node) : Type 0 where
@@ -30,12 +28,11 @@ pub record ListOnce (labels : List Label) (count : ℕ) (names : List ℕ) : Typ
   pub few : count ≤ labels_most
   pub once : (i j : ℕ) → i < count → j < count → spelled labels names i ≡ spelled labels names j → i ≡ j
 
--- r is the first position from low on and below high at which the list has the label w, or is high
-pub record FoundFrom (w : List ℕ) (labels : List Label) (names : List ℕ) (low high r : ℕ) : Type 0 where
-  pub from : low ≤ r
-  pub to : r ≤ high
-  pub before : (j : ℕ) → low ≤ j → j < r → same w (spelled labels names j) ≡ false
-  pub here : r < high → same w (spelled labels names r) ≡ true
+-- r is the first position from low on and below high that passes the test, or none of them does
+abbrev pub FirstBetween : ℕ → ℕ → (ℕ → Bool) → Option ℕ → Type 0
+FirstBetween low high p r =
+    MatchOption r ((j : ℕ) → low ≤ j → j < high → p j ≡ false)
+    (λ i. (low ≤ i) × (i < high) × (p i ≡ true) × ((j : ℕ) → low ≤ j → j < i → p j ≡ false))
 
 -- the places are those of the labels of x in the list of y
 abbrev pub Placed : Node → List ℕ → Node → List ℕ → List ℕ → Type 0
@@ -49,26 +46,29 @@ ChooserPlaced Send x xs y ys places = Placed y ys x xs places
 ChooserPlaced Branch x xs y ys places = Placed x xs y ys places
 ChooserPlaced Choose x xs y ys places = Placed y ys x xs places
 
+-- what is found, w being what is wrong: that, or, where nothing is, places of which P holds
+abbrev pub Finds : Wrong → (List ℕ → Type 0) → Result (List ℕ) Mismatch → Type 0
+Finds w P (Ok places) = (w ≡ None) × P places
+Finds w P (Err m) = w ≡ Some m
+
 -- what is found for the chooser x
-pub record Covers (x : Node) (xs : List ℕ) (y : Node) (ys : List ℕ) (r : Compared) : Type 0 where
-  pub wrong : r.wrong ≡ label_lacking x xs y ys
-  pub placed : r.wrong ≡ Nothing → Placed x xs y ys r.places
+abbrev pub Covers : Node → List ℕ → Node → List ℕ → Result (List ℕ) Mismatch → Type 0
+Covers x xs y ys r = Finds (label_lacking x xs y ys) (Placed x xs y ys) r
 
 -- what is found for two nodes
-pub record Compares (x : Node) (xs : List ℕ) (y : Node) (ys : List ℕ) (r : Compared) : Type 0 where
-  pub wrong : r.wrong ≡ mismatch_of x xs y ys
-  pub placed : r.wrong ≡ Nothing → ChooserPlaced x.kind x xs y ys r.places
+abbrev pub Compares : Node → List ℕ → Node → List ℕ → Result (List ℕ) Mismatch → Type 0
+Compares x xs y ys r = Finds (mismatch_of x xs y ys) (ChooserPlaced x.kind x xs y ys) r
 
-abbrev pub onward : Onward → rules.Onward
-onward (Onto l r t) = rules.onto l r t
-onward Nowhere = rules.nowhere
+abbrev pub onward : Option Onward → rules.Onward
+onward None = rules.nowhere
+onward (Some o) = rules.onto o.left o.right o.turns
 
 -- step s of the chooser x, whatever the name bytes with which the places of its labels are right
-pub record ChoosesAs (x y : Node) (places : List ℕ) (s : ℕ) (r : Onward) : Type 0 where
+pub record ChoosesAs (x y : Node) (places : List ℕ) (s : ℕ) (r : Option Onward) : Type 0 where
   pub is : (xs ys : List ℕ) → Placed x xs y ys places → onward r ≡ choice_step x xs y ys s
 
 -- step s of two nodes, likewise
-pub record StepsAs (x y : Node) (places : List ℕ) (s : ℕ) (r : Onward) : Type 0 where
+pub record StepsAs (x y : Node) (places : List ℕ) (s : ℕ) (r : Option Onward) : Type 0 where
   pub is : (xs ys : List ℕ) → ChooserPlaced x.kind x xs y ys places → onward r ≡ step_of x xs y ys s
 
 -- no step is numbered r or higher

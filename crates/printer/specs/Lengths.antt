@@ -1,9 +1,8 @@
 -- How many bytes a written line has.
 -- Assumes nothing.
-use Rattle.std.specs.Prelude.{◌≡◌, ℕ}
-use Rattle.table.specs.declared.answers.Written.{Written}
-use Rattle.table.specs.declared.answers.Written.TheVariants.{Line, Refused}
+use Rattle.std.specs.Prelude.{◌≡◌, ℕ, Result, Ok, Err}
+use Rattle.table.specs.declared.answers.Refusal.{Refusal}
 
-abbrev pub LengthOf : Written → ℕ → Type 0
-LengthOf (Line n) r = r ≡ n
-LengthOf (Refused number place) r = Unit {0}
+abbrev pub LengthOf : Result ℕ Refusal → ℕ → Type 0
+LengthOf (Ok n) r = r ≡ n
+LengthOf (Err e) r = Unit {0}

@@ -5,7 +5,7 @@ use std::io;
 fn rows(rt: &impl Print) -> io::Result<()> {
     show_lines(
         rt,
-        b"row 1, empty: \n\
+        "row 1, empty: \n\
         row 2, no full stop: A = end\n\
         row 3, no label: A = +{} .\n\
         row 4, the wrong bracket closes: A = ![string) .\n\
@@ -20,7 +20,7 @@ fn rows(rt: &impl Print) -> io::Result<()> {
 fn begun(rt: &impl Print) -> io::Result<()> {
     show_lines(
         rt,
-        b"defined name begun again: A = end . A\n\
+        "defined name begun again: A = end . A\n\
         label begun again: A = +{m: end | m\n\
         fifth item begun: A = ?(void,void,void,void,?=\n\
         comma behind the fourth item: A = ?(void,void,void,void,); end .\n\
@@ -32,7 +32,7 @@ fn begun(rt: &impl Print) -> io::Result<()> {
 fn long_words(rt: &impl Print) -> io::Result<()> {
     show_lines(
         rt,
-        b"long word where no word may stand: A = end xxxxxxxxxxxxxxxxx\n\
+        "long word where no word may stand: A = end xxxxxxxxxxxxxxxxx\n\
         long word as a name: xxxxxxxxxxxxxxxxx = end .\n\
         long word as a fifth item: A = ?(void,void,void,void,xxxxxxxxxxxxxxxxx); end .\n",
     )
@@ -41,7 +41,7 @@ fn long_words(rt: &impl Print) -> io::Result<()> {
 fn ends_and_blanks(rt: &impl Print) -> io::Result<()> {
     show_lines(
         rt,
-        b"end of the text behind blanks: A = end  \n\
+        "end of the text behind blanks: A = end  \n\
         vertical tab is no blank: A = end\x0b.\n",
     )
 }
@@ -49,7 +49,7 @@ fn ends_and_blanks(rt: &impl Print) -> io::Result<()> {
 fn names(rt: &impl Print) -> io::Result<()> {
     show_lines(
         rt,
-        b"leads into a round: A = B . B = B .\n\
+        "leads into a round: A = B . B = B .\n\
         8 before a 9 further left: A = A . B = C .\n\
         round that nothing reaches: A = end . B = B .\n\
         label spelled like a definition: A = +{A: A} .\n\
@@ -62,7 +62,7 @@ fn names(rt: &impl Print) -> io::Result<()> {
 fn brackets(rt: &impl Print) -> io::Result<()> {
     show_lines(
         rt,
-        b"wrong bracket where 16 are open: A = +{a:+{a:+{a:+{a:+{a:+{a:+{a:+{a:+{a:+{a:+{a:+{a:+{a:+{a:+{a:+{a:?[\n\
+        "wrong bracket where 16 are open: A = +{a:+{a:+{a:+{a:+{a:+{a:+{a:+{a:+{a:+{a:+{a:+{a:+{a:+{a:+{a:+{a:?[\n\
         right bracket where 16 are open: A = +{a:+{a:+{a:+{a:+{a:+{a:+{a:+{a:+{a:+{a:+{a:+{a:+{a:+{a:+{a:+{a:?(\n",
     )
 }
@@ -71,7 +71,7 @@ fn brackets(rt: &impl Print) -> io::Result<()> {
 fn not_there(rt: &impl Print) -> io::Result<()> {
     show_lines(
         rt,
-        b"short is a plain name: A = ?(short); end .\n\
+        "short is a plain name: A = ?(short); end .\n\
         at sign begins no token: A = +{a @ 5 : end} .\n\
         number behind a label: A = +{a@5: end} .\n",
     )

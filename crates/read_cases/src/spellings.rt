@@ -1,63 +1,44 @@
 // Words: "a letter, then letters, digits or underscores (ASCII), 1 to 16 bytes, case counted", and those that are reserved.
-use crate::show::show_lines;
-use crate::texts::Text;
+use crate::show::{show, show_lines};
+use crate::texts::LongText;
 use std::io;
 
-// A word in each place where a word may stand.
-fn places(rt: &impl Print, word: &[u8]) -> io::Result<()> {
-    rt.write_all(word)?;
-    Text::of(word).and(b" = end .").show(rt, b" as a name")?;
-    rt.write_all(word)?;
-    Text::of(b"A = +{")
-        .and(word)
-        .and(b": A} .")
-        .show(rt, b" as a label")?;
-    rt.write_all(word)?;
-    Text::of(b"A = ")
-        .and(word)
-        .and(b" .")
-        .show(rt, b" as a type")?;
-    rt.write_all(word)?;
-    Text::of(b"A = ?(")
-        .and(word)
-        .and(b"); A .")
-        .show(rt, b" as an item")?;
-    rt.write_all(word)?;
-    Text::of(b"A = ?(); ")
-        .and(word)
-        .and(b" .")
-        .show(rt, b" going on")
+// Words, each in each place where a word may stand.
+fn places(rt: &impl Print, words: &[&str]) -> io::Result<()> {
+    for word in words {
+        for (which, before, behind) in [
+            ("as a name", "", " = end ."),
+            ("as a label", "A = +{", ": A} ."),
+            ("as a type", "A = ", " ."),
+            ("as an item", "A = ?(", "); A ."),
+            ("going on", "A = ?(); ", " ."),
+        ] {
+            let text = LongText::of(before).and(word).and(behind);
+            show(rt, format_args!("{word} {which}"), text.bytes())?;
+        }
+    }
+    Ok(())
 }
 
 fn reserved(rt: &impl Print) -> io::Result<()> {
-    places(rt, b"end")?;
-    places(rt, b"string")?;
-    places(rt, b"float")?;
-    places(rt, b"boolean")?;
-    places(rt, b"void")
+    places(rt, &["end", "string", "float", "boolean", "void"])
 }
 
 fn not_reserved(rt: &impl Print) -> io::Result<()> {
-    places(rt, b"END")?;
-    places(rt, b"Void")?;
-    places(rt, b"end1")?;
-    places(rt, b"ending")?;
-    places(rt, b"ends")?;
-    places(rt, b"en")?;
-    places(rt, b"booleans")
+    places(
+        rt,
+        &["END", "Void", "end1", "ending", "ends", "en", "booleans"],
+    )
 }
 
 fn beginnings(rt: &impl Print) -> io::Result<()> {
-    places(rt, b"Z9_")?;
-    places(rt, b"a__")?;
-    places(rt, b"9a")?;
-    places(rt, b"_a")
+    places(rt, &["Z9_", "a__", "9a", "_a"])
 }
 
 fn case(rt: &impl Print) -> io::Result<()> {
     show_lines(
         rt,
-        b"End and END are names: A = End . End = ?(); END . END = end .\n\
+        "End and END are names: A = End . End = ?(); END . END = end .\n\
         labels of either case: A = +{a: A | A: end} .\n\
         a does not define A: a = A .\n\
         a and A are two: a = ?(); A . A = ![]; a .\n\
@@ -71,7 +52,7 @@ fn case(rt: &impl Print) -> io::Result<()> {
 fn second_words(rt: &impl Print) -> io::Result<()> {
     show_lines(
         rt,
-        b"second name reserved: A = end . void = end .\n\
+        "second name reserved: A = end . void = end .\n\
         second label reserved: A = +{a: A | void: A} .\n\
         digit apart from its name: A 1 = end .\n\
         digit for a label: A = +{1: A} .\n\

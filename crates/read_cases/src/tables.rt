@@ -6,7 +6,7 @@ use std::io;
 fn named(rt: &impl Print) -> io::Result<()> {
     show_lines(
         rt,
-        b"R: R = +{sum: ![string]; &{ok: ?(float); R | bad: R} | stop: end} .\n\
+        "R: R = +{sum: ![string]; &{ok: ?(float); R | bad: R} | stop: end} .\n\
         N: N = +{sum: ![string]; &{ok: ?(float); N | late: N} | stop: end} .\n\
         M: M = +{sum: ![string]; &{ok: ?(float); M} | stop: end | reset: M} .\n\
         P: P = ![+{a: end}]; end .\n\
@@ -19,7 +19,7 @@ fn named(rt: &impl Print) -> io::Result<()> {
 fn compared(rt: &impl Print) -> io::Result<()> {
     show_lines(
         rt,
-        b"one end: A = end .\n\
+        "one end: A = end .\n\
         no items: B = ?(); end .\n\
         one void: B = ?(void); end .\n\
         one string: A = ?(string); end .\n\
@@ -32,7 +32,7 @@ fn compared(rt: &impl Print) -> io::Result<()> {
 fn lists(rt: &impl Print) -> io::Result<()> {
     show_lines(
         rt,
-        b"the four sorts: A = ?(string, float, boolean, void); ![void, boolean, float, string]; A .\n\
+        "the four sorts: A = ?(string, float, boolean, void); ![void, boolean, float, string]; A .\n\
         end in a list: A = ?(end); end .\n\
         sorts and sessions: A = ![string, end, A, ?(); A]; end .\n\
         choice in an item in a choice: A = +{a: ?(&{b: ![A]; A}); A} .\n\
@@ -40,7 +40,7 @@ fn lists(rt: &impl Print) -> io::Result<()> {
     )?;
     show_places(
         rt,
-        b"one label in two choices",
+        "one label in two choices",
         b"A = +{a: &{a: end | b: A} | b: end} .",
     )
 }
@@ -48,7 +48,7 @@ fn lists(rt: &impl Print) -> io::Result<()> {
 fn names(rt: &impl Print) -> io::Result<()> {
     show_lines(
         rt,
-        b"name before its definition: A = ?(); B . B = end .\n\
+        "name before its definition: A = ?(); B . B = end .\n\
         name behind its definition: A = end . B = ?(); A .\n\
         through names forward: A = B . B = C . C = end .\n\
         through names backward: C = end . B = C . A = ?(A); B .\n\
@@ -62,7 +62,7 @@ fn names(rt: &impl Print) -> io::Result<()> {
 fn starts(rt: &impl Print) -> io::Result<()> {
     show_lines(
         rt,
-        b"start through a name: A = C . B = end . C = ?(); B .\n\
+        "start through a name: A = C . B = end . C = ?(); B .\n\
         start through three names: A = B . B = C . C = D . X = end . D = ?(X, A); B .\n\
         start at the last node: A = B . C = end . D = ![C]; A . B = &{l: D | m: A | n: C} .\n\
         definitions that nothing reaches: A = end . B = +{a: end | b: B} . C = B .\n",
@@ -73,7 +73,7 @@ fn starts(rt: &impl Print) -> io::Result<()> {
 fn undefined(rt: &impl Print) -> io::Result<()> {
     show_lines(
         rt,
-        b"undefined in what nothing reaches: A = end . B = C .\n\
+        "undefined in what nothing reaches: A = end . B = C .\n\
         undefined item and continuation: A = ?(C); B .\n\
         undefined under two labels: A = +{x: Y | y: X} .\n\
         undefined in two definitions: A = ?(B); C . B = D .\n\
@@ -85,7 +85,7 @@ fn undefined(rt: &impl Print) -> io::Result<()> {
 fn rounds(rt: &impl Print) -> io::Result<()> {
     show_lines(
         rt,
-        b"round of two: A = B . B = A .\n\
+        "round of two: A = B . B = A .\n\
         round of three behind an end: A = end . B = C . C = D . D = B .\n\
         round behind a message: A = ?(); B . B = C . C = B .\n\
         leads into a later round: A = end . D = B . B = C . C = B .\n\

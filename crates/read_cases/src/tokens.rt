@@ -5,7 +5,7 @@ use std::io;
 fn definitions(rt: &impl Print) -> io::Result<()> {
     show_lines(
         rt,
-        b"no name: = end .\n\
+        "no name: = end .\n\
         no =: A end .\n\
         = twice: A == end .\n\
         no type: A = .\n\
@@ -21,7 +21,7 @@ fn definitions(rt: &impl Print) -> io::Result<()> {
 fn types(rt: &impl Print) -> io::Result<()> {
     show_lines(
         rt,
-        b"sort goes on: A = ?(); void .\n\
+        "sort goes on: A = ?(); void .\n\
         sort behind a label: A = +{a: float} .\n\
         closed and not opened: A = end) .\n\
         closing bracket for a type: A = ) .\n\
@@ -36,7 +36,7 @@ fn types(rt: &impl Print) -> io::Result<()> {
 fn brackets(rt: &impl Print) -> io::Result<()> {
     show_lines(
         rt,
-        b"[ behind ?: A = ?[string]; end .\n\
+        "[ behind ?: A = ?[string]; end .\n\
         { behind ?: A = ?{string}; end .\n\
         ( behind !: A = !(string); end .\n\
         { behind !: A = !{string}; end .\n\
@@ -53,7 +53,7 @@ fn brackets(rt: &impl Print) -> io::Result<()> {
 fn items(rt: &impl Print) -> io::Result<()> {
     show_lines(
         rt,
-        b"no list: A = ? end .\n\
+        "no list: A = ? end .\n\
         no semicolon: A = ?() end .\n\
         no continuation: A = ?(); .\n\
         full stop behind a list: A = ?() .\n\
@@ -71,7 +71,7 @@ fn items(rt: &impl Print) -> io::Result<()> {
 fn labels(rt: &impl Print) -> io::Result<()> {
     show_lines(
         rt,
-        b"no label: A = &{} .\n\
+        "no label: A = &{} .\n\
         no colon: A = +{a end} .\n\
         no colon and no type: A = +{a} .\n\
         no label before a colon: A = +{: end} .\n\

@@ -23,10 +23,10 @@ use Rattle.cursor.specs.declared.Cursor.{Cursor}
 use Rattle.cursor.specs.declared.Taken.{Taken}
 use Rattle.flat.specs.Flat.{row, raw, used, words_of}
 use Rattle.flat.proofs.Rows.{row_apart, row_at}
-use Rattle.type_reader.specs.Leaves.{Signed, signed, not_signed}
+use Rattle.type_reader.specs.Leaves.{Got, Moved, got, Signed, signed, not_signed}
 use Rattle.type_reader.specs.Answers.{alone, TypeGot, TypeRead, PastType}
-use Rattle.type_reader.specs.declared.Got.{Got}
-use Rattle.type_reader.specs.declared.Got.TheVariants.{Past, Refused}
+use Rattle.table.specs.declared.answers.Refusal.{Refusal}
+use Rattle.std.specs.Prelude.{Ok, Err}
 use Rattle.type_reader.proofs.Took.{took_word, took_symbols}
 use Rattle.type_reader.proofs.Signs.{Plain, sign-refused, sign-past}
 use Rattle.type_reader.proofs.Standing.{signed_counts}
@@ -52,28 +52,29 @@ stop_next : next_symbol (one_byte (code ".")) ≡ a_definition
 unfolding one_of first
 stop_next = refl
 
-module _ {s : List ℕ} (l : length s ≤ text_most) (a b d : List ℕ) {t : Taken} (n : ℕ) {r₁ : Got} (g₁ : Named s d t n r₁) where
-  pub definition_told₁ : {m p : ℕ} → r₁ ≡ Refused m p → (a' b' d' : List ℕ) → DefinitionRead s a b d a' b' d' t n r₁
-  definition_told₁ e a' b' d' = rw e (record { told = λ ts J h f r. refused (name-refused l d n h f r (rw e at g₁)) })
+equals_at :
+    {s d : List ℕ} {t : Taken} {n : ℕ} {c₁ : Cursor} → Named s d t n (Ok c₁) → {r : Moved} → Signed s c₁ (code "=") r
+    → Signed s t.next (code "=") r
+equals_at g h = rw (fresh_name g).1 at h
 
-  module _ {v : ℕ} {c₁ : Cursor} (e₁ : r₁ ≡ Past v c₁) {r₂ : Got} (g₂ : Signed s c₁ (code "=") r₂) where
+module _ {s : List ℕ} (l : length s ≤ text_most) (a b d : List ℕ) {t : Taken} (n : ℕ) where
+  pub definition_told₁ : {no : Refusal} → Named s d t n (Err no) → (a' b' d' : List ℕ) → DefinitionRead s a b d a' b' d' t n (Err no)
+  definition_told₁ g a' b' d' = record { told = λ ts J h f r. refused (name-refused l d n h f r g) }
+
+  module _ {c₁ : Cursor} (g₁ : Named s d t n (Ok c₁)) where
     name : NewName s d t n
-    name = (fresh_name g₁ e₁).0
-
-    equals_at : Signed s t.next (code "=") r₂
-    equals_at = rw (fresh_name g₁ e₁).1 at g₂
+    name = (fresh_name g₁).0
 
     abbrev names : List (List ℕ)
     names = part s t.at t.len ∷ words_of s d 0 n
 
-    pub definition_told₂ : {m p : ℕ} → r₂ ≡ Refused m p → {a' b' d' : List ℕ} → DefinitionRead s a b d a' b' d' t n r₂
-    definition_told₂ e =
-        let h₂ = equals_at in
-        rw e (record { told = λ ts J h f r. refused (sign-refused l t.next.nodes names [] (omega arith) (rw e at h₂) (behind_name l d n h f r name)) })
+    pub definition_told₂ : {no : Refusal} → Signed s c₁ (code "=") (Err no) → {a' b' d' : List ℕ} → DefinitionRead s a b d a' b' d' t n (Err no)
+    definition_told₂ g₂ =
+        record { told = λ ts J h f r. refused (sign-refused l t.next.nodes names [] (omega arith) (equals_at g₁ g₂) (behind_name l d n h f r name)) }
 
-    module _ {v₂ : ℕ} {c₂ : Cursor} (e₂ : r₂ ≡ Past v₂ c₂) {t₃ : Taken} (k₃ : Takes s c₂ t₃) where
-      equals_past : Signed s t.next (code "=") (Past v₂ c₂)
-      equals_past = let h = equals_at in rw e₂ at h
+    module _ {c₂ : Cursor} (g₂ : Signed s c₁ (code "=") (Ok c₂)) {t₃ : Taken} (k₃ : Takes s c₂ t₃) where
+      equals_past : Signed s t.next (code "=") (Ok c₂)
+      equals_past = equals_at g₁ g₂
 
       behind_equals :
           {ts : List Token} {J : Stack} → Ahead s t ts → Starts J ts → Reached s ts J (counted a_definition t.next.nodes (words_of s d 0 n) [])
@@ -93,8 +94,8 @@ module _ {s : List ℕ} (l : length s ≤ text_most) (a b d : List ℕ) {t : Tak
           (acts_self (a_type ∷ this (code ".") ∷ []) (tokens_behind s c₂.at)) (behind_equals h f r).0 alone refl
 
       pub definition_told₃ :
-          {a₁ b₁ : List ℕ} {r₃ : Got} → TypeRead s a b a₁ b₁ t₃ 0 r₃ → {m p : ℕ} → r₃ ≡ Refused m p → (d' : List ℕ) → DefinitionRead s a b d a₁ b₁ d' t n r₃
-      definition_told₃ g₃ e d' = rw e (record { told = λ ts J h f r. refused (refused_type (type_told (rw e at g₃) h f r)) })
+          {a₁ b₁ : List ℕ} {no : Refusal} → TypeRead s a b a₁ b₁ t₃ 0 (Err no) → (d' : List ℕ) → DefinitionRead s a b d a₁ b₁ d' t n (Err no)
+      definition_told₃ g₃ d' = record { told = λ ts J h f r. refused (refused_type (type_told g₃ h f r)) }
 
       module _ (a₁ b₁ : List ℕ) (link : ℕ) (c₃ : Cursor) (long : length d ≡ rows_room) (d' : List ℕ) (st : d' ≡ stored_definition d n t link) where
         -- the names so far, with this one
@@ -109,9 +110,9 @@ module _ {s : List ℕ} (l : length s ≤ text_most) (a b d : List ℕ) {t : Tak
             (words_same s d (stored_definition d n t link) 0 n (λ j e f. row_apart d (n * row) t.at t.len link j (λ o. omega arith) (λ o. omega arith) (λ o. omega arith))))
 
         done :
-            {ts : List Token} {J : Stack} {c₄ : Cursor} {v₄ : ℕ} (h : Ahead s t ts) (f : Starts J ts) (r : Reached s ts J (counted a_definition t.next.nodes (words_of s d 0 n) [])) (x : Ty)
+            {ts : List Token} {J : Stack} {c₄ : Cursor} (h : Ahead s t ts) (f : Starts J ts) (r : Reached s ts J (counted a_definition t.next.nodes (words_of s d 0 n) [])) (x : Ty)
             → PastType s a b a₁ b₁ t₃ (tokens_behind s c₂.at) (this (code ".") ∷ []) nothing_new names [] x link c₃
-            → Signed s c₃ (code ".") (Past v₄ c₄)
+            → Signed s c₃ (code ".") (Ok c₄)
             → PastDefinition s a b d a₁ b₁ d' t ts n (took_word h name.is_word).token x c₄
         done {ts} {c₄ = c₄} h f r x p g₄ =
             let k = took_word h name.is_word in
@@ -139,13 +140,12 @@ module _ {s : List ℕ} (l : length s ≤ text_most) (a b d : List ℕ) {t : Tak
             }
 
         ended :
-            {ts : List Token} {J : Stack} {r₄ : Got} (h : Ahead s t ts) (f : Starts J ts) (r : Reached s ts J (counted a_definition t.next.nodes (words_of s d 0 n) [])) (x : Ty)
+            {ts : List Token} {J : Stack} {r₄ : Moved} (h : Ahead s t ts) (f : Starts J ts) (r : Reached s ts J (counted a_definition t.next.nodes (words_of s d 0 n) [])) (x : Ty)
             → PastType s a b a₁ b₁ t₃ (tokens_behind s c₂.at) (this (code ".") ∷ []) nothing_new names [] x link c₃
             → Signed s c₃ (code ".") r₄ → DefinitionGot s a b d a₁ b₁ d' t ts n r₄
         ended h f r x p (not_signed k e) = refused (sign-refused l c₃.nodes names [] (omega arith) (not_signed k e) p.reached)
         ended h f r x p (signed k e) = past (took_word h name.is_word).token x (done h f r x p (signed k e))
 
         pub definition_told₄ :
-            {r₃ r₄ : Got} → TypeRead s a b a₁ b₁ t₃ 0 r₃ → r₃ ≡ Past link c₃ → Signed s c₃ (code ".") r₄ → DefinitionRead s a b d a₁ b₁ d' t n r₄
-        definition_told₄ g₃ e g₄ =
-            record { told = λ ts J h f r. let p = past_type (type_told (rw e at g₃) h f r) in ended h f r p.0 p.1 g₄ }
+            {r₄ : Moved} → TypeRead s a b a₁ b₁ t₃ 0 (got link c₃) → Signed s c₃ (code ".") r₄ → DefinitionRead s a b d a₁ b₁ d' t n r₄
+        definition_told₄ g₃ g₄ = record { told = λ ts J h f r. let p = past_type (type_told g₃ h f r) in ended h f r p.0 p.1 g₄ }

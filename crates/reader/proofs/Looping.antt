@@ -12,7 +12,7 @@ use Rattle.rules.specs.Words.{reserved_words}
 use Rattle.rules.specs.Tokens.{Token, Symbol, word, reserved_word, one_byte, symbol, symbols}
 use Rattle.rules.specs.Notation.{Text}
 use Rattle.rules.specs.Numbers.{text_most, definitions_most}
-use Rattle.rules.specs.Refusals.{a_definition, text_too_long}
+use Rattle.rules.specs.Refusals.{number, a_definition}
 use Rattle.rules.specs.Replies.{Reads, refused}
 use Rattle.rules.specs.computed.Reading.{reading}
 use Rattle.rules.proofs.Agreement.{reads_reading}
@@ -20,16 +20,18 @@ use Rattle.rules.proofs.Machine.{start}
 use Rattle.rules.proofs.Reached.{Reached, Refuses, reached_start, reached_text}
 use Rattle.rules.proofs.OneToken.{counted}
 use Rattle.rules.proofs.TokensBehind.{tokens_behind}
-use Rattle.cursor.specs.Takes.{Ahead, Takes, kind, reserved_kind, end_kind}
+use Rattle.cursor.specs.Takes.{Ahead, Takes, kind, reserved_kind, end_kind, kind_of}
 use Rattle.cursor.specs.declared.Cursor.{Cursor}
 use Rattle.cursor.specs.declared.Taken.{Taken}
 use Rattle.flat.specs.Flat.{row, words_of, Parsed}
 use Rattle.flat.proofs.Rows.{row-length}
-use Rattle.type_reader.specs.Leaves.{Signed, signed, not_signed}
+use Rattle.type_reader.specs.Leaves.{Moved, got, Signed, signed, not_signed}
 use Rattle.type_reader.specs.Answers.{Ready}
 use Rattle.type_reader.proofs.Safe.{onward_taken}
-use Rattle.type_reader.specs.declared.Got.{Got}
-use Rattle.type_reader.specs.declared.Got.TheVariants.{Past, Refused}
+use Rattle.table.specs.declared.answers.Refusal.{Refusal}
+use Rattle.table.specs.declared.answers.RefusalKind.TheVariants as kinds
+use Rattle.std.specs.Prelude.{Ok, Err}
+use Rattle.type_reader.specs.declared.Past.{Past}
 use Rattle.reader.specs.Defining.{rows_room, stored_definition, Starts, at_first, further, DefinitionGot, DefinitionRead, TextGot, Sound}
 use Rattle.reader.specs.Defining as defining
 use Rattle.reader.proofs.Texts.{Whole, Open, all_behind, open_first, open_next, closed_next}
@@ -59,11 +61,11 @@ no_end (one_byte b) e = go (ltb b reserved_kind) refl
     go true q = let z : b ≡ end_kind = rw (kind, q) at e in omega (arith, ltb-true b reserved_kind q)
     go false q = let z : 263 ≡ end_kind = rw (kind, q) at e in omega arith
 
-nothing_left : {s : List ℕ} {t : Taken} (ts : List Token) → Ahead s t ts → t.kind ≡ end_kind → ts ≡ []
+nothing_left : {s : List ℕ} {t : Taken} (ts : List Token) → Ahead s t ts → kind_of t ≡ end_kind → ts ≡ []
 nothing_left [] h e = refl
 nothing_left (u ∷ k) h e = absurd (no_end (symbol u) (sym h.is ∙ e))
 
-starts_further : {s : List ℕ} {t : Taken} (ts : List Token) → Ahead s t ts → (t.kind ≡ end_kind → ⊥) → Starts [] ts
+starts_further : {s : List ℕ} {t : Taken} (ts : List Token) → Ahead s t ts → (kind_of t ≡ end_kind → ⊥) → Starts [] ts
 starts_further [] h n = absurd (n h.is)
 starts_further (u ∷ k) h n = further
 
@@ -71,38 +73,32 @@ abbrev origin : Cursor
 origin = record { at = 0; nodes = 0; uses = 0 }
 
 -- what a definition tells, at the start of the text and further on
-pub first_got : {s a b d a₁ b₁ d₁ : List ℕ} {t : Taken} {r : Got} → Takes s origin t → DefinitionRead s a b d a₁ b₁ d₁ t 0 r → DefinitionGot s a b d a₁ b₁ d₁ t (tokens_behind s 0) 0 r
+pub first_got : {s a b d a₁ b₁ d₁ : List ℕ} {t : Taken} {r : Moved} → Takes s origin t → DefinitionRead s a b d a₁ b₁ d₁ t 0 r → DefinitionGot s a b d a₁ b₁ d₁ t (tokens_behind s 0) 0 r
 first_got {s} {d = d} k f =
     f.told (tokens_behind s 0) start k.ahead at_first (rw (k.nodes, all_behind s) (reached_start s))
 
 pub later_got :
-    {s a b d a₁ b₁ d₁ : List ℕ} {c : Cursor} {n : ℕ} {t : Taken} {r : Got} → Looping s a b d c n t → (t.kind ≡ end_kind → ⊥)
+    {s a b d a₁ b₁ d₁ : List ℕ} {c : Cursor} {n : ℕ} {t : Taken} {r : Moved} → Looping s a b d c n t → (kind_of t ≡ end_kind → ⊥)
     → DefinitionRead s a b d a₁ b₁ d₁ t n r → DefinitionGot s a b d a₁ b₁ d₁ t (tokens_behind s c.at) n r
 later_got {s} {c = c} g e f =
     f.told (tokens_behind s c.at) [] g.taken.ahead (starts_further (tokens_behind s c.at) g.taken.ahead e) (rw g.taken.nodes g.reached)
 
-refused_now : {s a b d a₁ b₁ d₁ : List ℕ} {t : Taken} {ts : List Token} {n m p : ℕ} → DefinitionGot s a b d a₁ b₁ d₁ t ts n (Refused m p) → TextGot s a₁ b₁ d₁ (Refused m p)
-refused_now (defining.refused z) = defining.refused z
-
-pub text_refused : {s a b d a₁ b₁ d₁ : List ℕ} {t : Taken} {ts : List Token} {n m p : ℕ} {r : Got} → DefinitionGot s a b d a₁ b₁ d₁ t ts n r → r ≡ Refused m p → TextGot s a₁ b₁ d₁ r
-text_refused g e = rw e (refused_now (rw e at g))
+pub text_refused : {s a b d a₁ b₁ d₁ : List ℕ} {t : Taken} {ts : List Token} {n : ℕ} {no : Refusal} → DefinitionGot s a b d a₁ b₁ d₁ t ts n (Err no) → TextGot s a₁ b₁ d₁ (Err no)
+text_refused (defining.refused z) = defining.refused z
 
 pub record Within (s a b d : List ℕ) (from : ℕ) (c : Cursor) : Type 0 where
   pub further : from < c.at
   pub ready : Ready s a b c
   pub rows : length d ≡ rows_room
 
-within_now : {s a b d : List ℕ} {from v : ℕ} {c : Cursor} → Sound s a b d from (Past v c) → Within s a b d from c
-within_now (defining.past f r l) = record { further = f; ready = r; rows = l }
+pub sound_within : {s a b d : List ℕ} {from : ℕ} {c : Cursor} → Sound s a b d from (Ok c) → Within s a b d from c
+sound_within (defining.past f r l) = record { further = f; ready = r; rows = l }
 
-pub sound_within : {s a b d : List ℕ} {from v : ℕ} {c : Cursor} {r : Got} → Sound s a b d from r → r ≡ Past v c → Within s a b d from c
-sound_within h e = within_now (rw e at h)
-
-next_now :
-    {s a b d a₁ b₁ d₁ : List ℕ} {c c₁ : Cursor} {n v : ℕ} {t t₂ : Taken} → Takes s c t → Open s a b d n c
-    → DefinitionGot s a b d a₁ b₁ d₁ t (tokens_behind s c.at) n (Past v c₁) → Ready s a₁ b₁ c₁ → length d₁ ≡ rows_room → Takes s c₁ t₂
+pub loop_next :
+    {s a b d a₁ b₁ d₁ : List ℕ} {c c₁ : Cursor} {n : ℕ} {t t₂ : Taken} → Takes s c t → Open s a b d n c
+    → DefinitionGot s a b d a₁ b₁ d₁ t (tokens_behind s c.at) n (Ok c₁) → Ready s a₁ b₁ c₁ → length d₁ ≡ rows_room → Takes s c₁ t₂
     → Looping s a₁ b₁ d₁ c₁ (n + 1) t₂
-next_now k o (defining.past w x p) r m k₂ =
+loop_next k o (defining.past w x p) r m k₂ =
     record {
       ready = r;
       taken = k₂;
@@ -113,19 +109,13 @@ next_now k o (defining.past w x p) r m k₂ =
       closed = λ e. (_, closed_next k o p e);
     }
 
-pub loop_next :
-    {s a b d a₁ b₁ d₁ : List ℕ} {c c₁ : Cursor} {n v : ℕ} {t t₂ : Taken} {r : Got} → Takes s c t → Open s a b d n c
-    → DefinitionGot s a b d a₁ b₁ d₁ t (tokens_behind s c.at) n r → r ≡ Past v c₁ → Ready s a₁ b₁ c₁ → length d₁ ≡ rows_room → Takes s c₁ t₂
-    → Looping s a₁ b₁ d₁ c₁ (n + 1) t₂
-loop_next k o g e r m k₂ = next_now k o (rw e at g) r m k₂
-
 pub loop_first :
-    {s a b d a₁ b₁ d₁ : List ℕ} {c₁ : Cursor} {v : ℕ} {t t₂ : Taken} {r : Got} → Takes s origin t → DefinitionRead s a b d a₁ b₁ d₁ t 0 r
-    → r ≡ Past v c₁ → Ready s a₁ b₁ c₁ → length d₁ ≡ rows_room → Takes s c₁ t₂ → Looping s a₁ b₁ d₁ c₁ 1 t₂
-loop_first {s} {a} {b} {d} k f e r m k₂ = loop_next k (open_first s a b d) (first_got k f) e r m k₂
+    {s a b d a₁ b₁ d₁ : List ℕ} {c₁ : Cursor} {t t₂ : Taken} → Takes s origin t → DefinitionRead s a b d a₁ b₁ d₁ t 0 (Ok c₁)
+    → Ready s a₁ b₁ c₁ → length d₁ ≡ rows_room → Takes s c₁ t₂ → Looping s a₁ b₁ d₁ c₁ 1 t₂
+loop_first {s} {a} {b} {d} k f r m k₂ = loop_next k (open_first s a b d) (first_got k f) r m k₂
 
 -- the end of the text
-pub loop_ended : {s a b d : List ℕ} {c : Cursor} {n : ℕ} {t : Taken} → Looping s a b d c n t → t.kind ≡ end_kind → TextGot s a b d (Past n c)
+pub loop_ended : {s a b d : List ℕ} {c : Cursor} {n : ℕ} {t : Taken} → Looping s a b d c n t → kind_of t ≡ end_kind → TextGot s a b d (got n c)
 loop_ended {s} {c = c} g e =
     let z : tokens_behind s c.at ≡ [] = nothing_left (tokens_behind s c.at) g.taken.ahead e in
     let (x, w) = g.closed (ap symbols z) in
@@ -146,33 +136,24 @@ loop_ended {s} {c = c} g e =
     })
 
 -- Where the answers of a definition lead.
-pub sound_refused : {s a b d : List ℕ} {from n p : ℕ} {r : Got} → r ≡ Refused n p → Sound s a b d from r
-sound_refused {n = n} {p = p} e = rw e (defining.refused {n = n} {p = p})
-
 pub sound_signed :
-    {s a b d : List ℕ} {from k : ℕ} {c : Cursor} {r : Got} → Ready s a b c → Signed s c k r → k < end_kind → from ≤ c.at → length d ≡ rows_room
+    {s a b d : List ℕ} {from k : ℕ} {c : Cursor} {r : Moved} → Ready s a b c → Signed s c k r → k < end_kind → from ≤ c.at → length d ≡ rows_room
     → Sound s a b d from r
 sound_signed h (not_signed k e) l m q = defining.refused
-sound_signed h (signed {t} k e) l m q = let o = onward_taken h k e l in defining.past {v = 0} {c = t.next} (omega (arith, o.further)) o.ready q
+sound_signed h (signed {t} k e) l m q = let o = onward_taken h k e l in defining.past {c = t.next} (omega (arith, o.further)) o.ready q
 
 pub origin_ready : {s a b : List ℕ} → length s ≤ text_most → length a ≡ text_most → length b ≡ text_most → Ready s a b origin
 origin_ready l e f = record { short = l; inside = omega arith; few_nodes = omega arith; few_uses = omega arith; room_nodes = e; room_uses = f }
 
 -- the answer of all definitions, taken apart
-past_now : {s a b d : List ℕ} {v : ℕ} {c : Cursor} → TextGot s a b d (Past v c) → (x : Text) × Parsed s a b d v c.nodes c.uses x
-past_now (defining.past x p) = (x, p)
+pub text_past : {s a b d : List ℕ} {p : Past} → TextGot s a b d (Ok p) → (x : Text) × Parsed s a b d p.value p.next.nodes p.next.uses x
+text_past (defining.past x p) = (x, p)
 
-pub text_past : {s a b d : List ℕ} {v : ℕ} {c : Cursor} {r : Got} → TextGot s a b d r → r ≡ Past v c → (x : Text) × Parsed s a b d v c.nodes c.uses x
-text_past g e = past_now (rw e at g)
-
-refuses_now : {s a b d : List ℕ} {n p : ℕ} → TextGot s a b d (Refused n p) → Refuses s n p
-refuses_now (defining.refused z) = z
-
-pub text_refuses : {s a b d : List ℕ} {n p : ℕ} {r : Got} → TextGot s a b d r → r ≡ Refused n p → Refuses s n p
-text_refuses g e = refuses_now (rw e at g)
+pub text_refuses : {s a b d : List ℕ} {no : Refusal} → TextGot s a b d (Err no) → Refuses s (number no.kind) no.place
+text_refuses (defining.refused z) = z
 
 -- "text over 4,096 bytes"
-pub too_long : (s : List ℕ) → text_most < length s → Reads s (refused text_too_long 0)
+pub too_long : (s : List ℕ) → text_most < length s → Reads s (refused kinds.TextTooLong 0)
 unfolding reading
 too_long s l = let r = reads_reading s in rw (reading, lt-ltb text_most (length s) l) at r
 

@@ -4,49 +4,34 @@ ghost use Rattle.rules.specs.Numbers.{text_most, definitions_most};
 ghost use Rattle.type_reader.specs.Answers.{TokenReady};
 ghost use Rattle.reader.specs.Defining.{rows_room, Named, stored_definition, Sound, DefinitionRead, TextGot};
 
-use cursor::{Cursor, NOTHING, Taken, WORD};
-use flat::{DEFINITIONS_MOST, DEFINITIONS_ROOM, ROW, TEXT_MOST, find_word, word_at};
-use type_reader::{Got, ONE_TOO_MANY, UNEXPECTED, WORD_TOO_LONG, read_type, sign, too_long};
-
-// The column "No." of document 01's refusal list.
-const NAME_TWICE: usize = 7;
-
-// The tokens of one byte.
-const EQUALS: u16 = b'=' as u16;
-
-const STOP: u16 = b'.' as u16;
+use cursor::{Cursor, Symbol, Taken};
+use flat::{DEFINITIONS_MOST, DEFINITIONS_ROOM, ROW, find_word, word_at};
+use table::answers::{Refusal, RefusalKind};
+use type_reader::{Areas, Past, read_type, refusal, sign, too_long};
 
 // The name t of a definition, behind n others.
-fn name(s: &[u8], definitions: &[u16; DEFINITIONS_ROOM], t: Taken, n: usize) -> Got
+fn name(
+    s: &[u8],
+    definitions: &[u16; DEFINITIONS_ROOM],
+    t: Taken,
+    n: usize,
+) -> Result<Cursor, Refusal>
     requires { length definitions.now ≡ rows_room }
     ensures { Named s.now definitions.now t n result }
 {
-    if t.kind != WORD {
-        return Got::Refused {
-            number: UNEXPECTED,
-            place: t.at,
-        };
+    if !t.is(Symbol::Word) {
+        return Err(refusal(RefusalKind::Unexpected, t));
     }
     if too_long(t.len) {
-        return Got::Refused {
-            number: WORD_TOO_LONG,
-            place: t.at,
-        };
+        return Err(refusal(RefusalKind::WordTooLong, t));
     }
     if DEFINITIONS_MOST <= n {
-        return Got::Refused {
-            number: ONE_TOO_MANY,
-            place: t.at,
-        };
+        return Err(refusal(RefusalKind::OneTooMany, t));
     }
-    if find_word(s, definitions, n, word_at(s, t.at, t.len)) < n {
-        return Got::Refused {
-            number: NAME_TWICE,
-            place: t.at,
-        };
+    if find_word(s, definitions, n, word_at(s, t.at, t.len)).is_some() {
+        return Err(refusal(RefusalKind::NameTwice, t));
     }
-    let next = t.next;
-    Got::Past { value: 0, next }
+    Ok(t.next)
 }
 
 fn store_definition(definitions: &mut [u16; DEFINITIONS_ROOM], n: usize, t: Taken, link: u16)
@@ -61,69 +46,47 @@ fn store_definition(definitions: &mut [u16; DEFINITIONS_ROOM], n: usize, t: Take
 // The definition whose name is t, behind n others.
 fn read_definition(
     s: &[u8],
-    nodes: &mut [u16; TEXT_MOST],
-    uses: &mut [u16; TEXT_MOST],
+    areas: &mut Areas,
     definitions: &mut [u16; DEFINITIONS_ROOM],
     t: Taken,
     n: usize,
-) -> Got
-    requires { TokenReady s.now nodes.old uses.old t × (length definitions.old ≡ rows_room) }
-    ensures sound { Sound s.now nodes.new uses.new definitions.new t.at result }
-    ensures definition_read { DefinitionRead s.now nodes.old uses.old definitions.old nodes.new uses.new definitions.new t n result }
+) -> Result<Cursor, Refusal>
+    requires { TokenReady s.now areas.old.nodes areas.old.uses t × (length definitions.old ≡ rows_room) }
+    ensures sound { Sound s.now areas.new.nodes areas.new.uses definitions.new t.at result }
+    ensures definition_read { DefinitionRead s.now areas.old.nodes areas.old.uses definitions.old areas.new.nodes areas.new.uses definitions.new t n result }
 {
-    let r1 = name(s, definitions, t, n);
-    let Got::Past { value: _, next: c1 } = r1 else {
-        return r1;
-    };
-    let r2 = sign(s, c1, EQUALS);
-    let Got::Past { value: _, next: c2 } = r2 else {
-        return r2;
-    };
-    let r3 = read_type(s, nodes, uses, c2.take(s), 0);
-    let Got::Past {
-        value: link,
-        next: c3,
-    } = r3
-    else {
-        return r3;
-    };
-    store_definition(definitions, n, t, link);
-    sign(s, c3, STOP)
+    let c1 = name(s, definitions, t, n)?;
+    let c2 = sign(s, c1, Symbol::Byte(b'='))?;
+    let session = read_type(s, areas, c2.take(s), 0)?;
+    store_definition(definitions, n, t, session.value);
+    sign(s, session.next, Symbol::Byte(b'.'))
 }
 
 // All definitions of a text; the value is their count.
 pub fn read_definitions(
     s: &[u8],
-    nodes: &mut [u16; TEXT_MOST],
-    uses: &mut [u16; TEXT_MOST],
+    areas: &mut Areas,
     definitions: &mut [u16; DEFINITIONS_ROOM],
-) -> Got
-    requires { (length s.now ≤ text_most) × (length nodes.old ≡ text_most) × (length uses.old ≡ text_most) × (length definitions.old ≡ rows_room) }
-    ensures { TextGot s.now nodes.new uses.new definitions.new result }
+) -> Result<Past, Refusal>
+    requires { (length s.now ≤ text_most) × (length areas.old.nodes ≡ text_most) × (length areas.old.uses ≡ text_most) × (length definitions.old ≡ rows_room) }
+    ensures { TextGot s.now areas.new.nodes areas.new.uses definitions.new result }
 {
     let start = Cursor {
         at: 0,
         nodes: 0,
         uses: 0,
     };
-    let r1 = read_definition(s, nodes, uses, definitions, start.take(s), 0);
-    let Got::Past { value: _, next: c1 } = r1 else {
-        return r1;
-    };
-    let mut c = c1;
+    let mut c = read_definition(s, areas, definitions, start.take(s), 0)?;
     let mut n = 1;
     let mut t = c.take(s);
-    while t.kind != NOTHING {
-        let r2 = read_definition(s, nodes, uses, definitions, t, n);
-        let Got::Past { value: _, next: c2 } = r2 else {
-            return r2;
-        };
-        c = c2;
+    // Not a `for`: each definition begins at the token that the one before it ends at.
+    while !t.is(Symbol::Nothing) {
+        c = read_definition(s, areas, definitions, t, n)?;
         n += 1;
         t = c.take(s);
     }
-    Got::Past {
+    Ok(Past {
         value: n as u16,
         next: c,
-    }
+    })
 }

@@ -3,7 +3,7 @@
 use mathlib.Core.List.{List}
 use mathlib.Core.Option.{Option, none, some, some-injective}
 use mathlib.Core.Path.{◌≡◌, refl, sym, ap, subst, ◌∙◌}
-use Prim.Native.Nat.{ℕ, zero, suc, ◌+◌, ◌*◌, ◌<◌, ◌≤◌}
+use Prim.Native.Nat.{ℕ, zero, suc, ◌+◌, ◌<◌, ◌≤◌}
 use native.Mathlib.Decide.{ℕ_discrete, le_ind}
 use native.Mathlib.Numerals.{add-one}
 use native.Mathlib.Omega.{arith}
@@ -16,7 +16,8 @@ use Rattle.search.specs.Queue.{Kept, Queue, visited}
 use Rattle.search.proofs.Queues.{queue_visited, visited-met, visited_new}
 use Rattle.pairs.specs.Beside.{StepsBelow}
 use Rattle.table.specs.declared.Node.{Node}
-use Rattle.replace.specs.Taking.{place_of, leads_to, stepped, expanded, Ready, Leading, StepTaken, StepsTaken}
+use Rattle.replace.specs.Taking.{size_of, place_of, leads_to, stepped, expanded, Ready, Leading, StepTaken, StepsTaken}
+use Rattle.replace.specs.declared.entry.Entry.{Entry}
 
 -- a visit takes no entry away
 visited_grows : (size h s q : ℕ) (k : Kept) → h < k.tail → h < (visited size h s q k).tail
@@ -53,49 +54,40 @@ place_of_some : (n m : ℕ) (o : Option Pair) (q : ℕ) → place_of n m o ≡ s
 place_of_some n m none q e = let z : ◌≡◌ {A = ℕ} 0 1 = cc in absurd (omega arith)
 place_of_some n m (some p) q e = (p, refl, some-injective (place n m p) q e)
 
-module _ {n m u h : ℕ} {x y : Node} {places : List ℕ} {k : Kept} where
-  pub steps_none : StepsTaken n m u h x y places 0 k k
+module _ {e : Entry} {x y : Node} {places : List ℕ} {k : Kept} where
+  pub steps_none : StepsTaken e x y places 0 k k
   unfolding expanded
   steps_none = record { is = λ xs ys P. refl }
 
   pub steps_more :
-      {s : ℕ} {k' k'' : Kept} → StepsTaken n m u h x y places s k k' → StepTaken n m u h x y places s k' k''
-      → StepsTaken n m u h x y places (s + 1) k k''
+      {s : ℕ} {k' k'' : Kept} → StepsTaken e x y places s k k' → StepTaken e x y places s k' k'' → StepsTaken e x y places (s + 1) k k''
   unfolding expanded
   steps_more {s} T A =
-      record {
-        is =
-            λ xs ys P.
-            rw (add-one s)
-            (A.is xs ys P ∙ ap (stepped (turns_most * n * m) h s (leads_to n m u x xs y ys s)) (T.is xs ys P));
-      }
+      record { is = λ xs ys P. rw (add-one s) (A.is xs ys P ∙ ap (stepped (size_of e) e.at s (leads_to e x xs y ys s)) (T.is xs ys P)) }
 
   pub steps_all :
-      {s limit : ℕ} {k' : Kept} → StepsTaken n m u h x y places s k k' → StepsBelow x y limit → s ≡ limit
-      → StepsTaken n m u h x y places labels_most k k'
-  steps_all {s} {limit} T B e =
+      {s limit : ℕ} {k' : Kept} → StepsTaken e x y places s k k' → StepsBelow x y limit → s ≡ limit
+      → StepsTaken e x y places labels_most k k'
+  steps_all {s} {limit} T B same =
       record {
         is =
             λ xs ys P.
             T.is xs ys P
-            ∙ (rw e
-            (expanded-past (turns_most * n * m) h (leads_to n m u x xs y ys) limit k
-            (λ i l. ap (λ (o : rules.Onward). place_of n m (landed u o)) (B.none xs ys i l)) labels_most B.few));
+            ∙ (rw same
+            (expanded-past (size_of e) e.at (leads_to e x xs y ys) limit k
+            (λ i l. ap (λ (o : rules.Onward). place_of e.sizes.new e.sizes.old (landed e.turn o)) (B.none xs ys i l)) labels_most B.few));
       }
 
-  pub ready_after : {s : ℕ} {k' : Kept} → Ready n m u h k → Leading n m u x y places → StepsTaken n m u h x y places s k k' → Ready n m u h k'
+  pub ready_after : {s : ℕ} {k' : Kept} → Ready e k → Leading e x y places → StepsTaken e x y places s k k' → Ready e k'
   ready_after {s} {k'} Y L T =
-      let next = leads_to n m u x L.left_names y L.right_names in
-      let below : (i q : ℕ) → next i ≡ some q → q < turns_most * n * m =
-      λ i q e.
-      let w = place_of_some n m (landed u (step_of x L.left_names y L.right_names i)) q e in
+      let next = leads_to e x L.left_names y L.right_names in
+      let below : (i q : ℕ) → next i ≡ some q → q < size_of e =
+      λ i q d.
+      let w = place_of_some e.sizes.new e.sizes.old (landed e.turn (step_of x L.left_names y L.right_names i)) q d in
       rw (← w.2) (place_below (L.lands i w.0 w.1)) in
-      let H = expanded_holds (turns_most * n * m) h next s k below (Y.queue, Y.entry) in
-      let e = T.is L.left_names L.right_names L.placed in
+      let H = expanded_holds (size_of e) e.at next s k below (Y.queue, Y.entry) in
+      let taken = T.is L.left_names L.right_names L.placed in
       record {
-        new_few = Y.new_few;
-        old_few = Y.old_few;
-        turn_below = Y.turn_below;
-        queue = subst (Queue (turns_most * n * m)) (sym e) H.0;
-        entry = subst (λ (z : Kept). h < z.tail) (sym e) H.1;
+        queue = subst (Queue (size_of e)) (sym taken) H.0;
+        entry = subst (λ (z : Kept). e.at < z.tail) (sym taken) H.1;
       }

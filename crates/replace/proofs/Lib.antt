@@ -1,6 +1,7 @@
 pub mod Stepping
 pub mod Expanding
-pub mod ByTurn
+pub mod Beginning
+pub mod Mapped
 pub mod States
 pub mod Verdicts
 pub mod Longer

@@ -3,15 +3,15 @@
 use mathlib.Core.Bool.{true}
 use mathlib.Core.List.{List, [], ◌∷◌, ◌++◌, append_assoc, append-nil}
 use mathlib.Core.Path.{◌≡◌, refl, sym, ap, ◌∙◌}
-use Prim.Native.Nat.{ℕ, zero, suc, ◌+◌, ◌≤◌}
+use Prim.Native.Nat.{ℕ, zero, suc, ◌+◌, ◌*◌, ◌≤◌}
 use native.Mathlib.Nat.{min-eq_left}
 use native.Mathlib.Omega.{arith}
 use lib.ListN.{length, take, drop, replicate, length-append, length-drop, length-take, drop_of_length-le, take-append-drop, get_or-append}
 use lib.Seq.{take_at, drop_at, take_all}
+use Rattle.std.specs.Prelude.{Result, Ok}
 use Rattle.rules.specs.Formed.{well_formed}
+use Rattle.rules.specs.Pairs.{turns_most}
 use Rattle.rules.specs.Replies.{Areas, NoRefusal, SaysYes, SaysNo, Replaces, says_yes, says_no, pair_count, scratch_size, cleared, mark_place, count_marks}
-use Rattle.rules.proofs.Formed.{formed}
-use Rattle.rules.proofs.LineAgreement.{never_refused}
 use Rattle.rules.proofs.Places.{place_below, scratch_twice}
 use Rattle.rules.proofs.Steps.{Within}
 use Rattle.table.specs.declared.Table.{Table}
@@ -19,7 +19,7 @@ use Rattle.table.specs.declared.answers.Found.{Found}
 use Rattle.table.specs.declared.answers.Verdict.{Verdict}
 use Rattle.table.specs.declared.answers.Verdict.TheVariants as the
 use Rattle.replace.specs.State.{EndedAt, Concludable, Concludes}
-use Rattle.replace.specs.declared.Ended.{Ended}
+use Rattle.replace.specs.declared.FirstMismatch.{FirstMismatch}
 
 module _ {n : ℕ} (s : List ℕ) (l : n ≤ length s) where
   pub part_long : length (take n s) ≡ n
@@ -121,88 +121,62 @@ module _ {new : Table} {new_names : List ℕ} {old : Table} {old_names : List �
         }
 
     replaces_longer :
-        (v : Verdict) → Replaces new new_names old old_names first_parts after v
-        → Replaces new new_names old old_names before (wholes after) v
+        (v : Verdict) → Replaces new new_names old old_names first_parts after (Ok v)
+        → Replaces new new_names old old_names before (wholes after) (Ok v)
     replaces_longer (the.Yes c) (says_yes G Y) = says_yes F (yes_longer Y)
     replaces_longer (the.No f) (says_no G X) = says_no F (no_longer X)
-    replaces_longer (the.Refused n p) R = absurd (never_refused parts_no_refusal R)
 
-pub twice_scratch : {size : ℕ} (new old : Table) → size ≡ pair_count new old → size + size ≡ scratch_size new old
-twice_scratch new old e = omega (arith, e, scratch_twice new.count old.count)
+module _ (new old : Table) {n m : ℕ} (counted : (n ≡ new.count) × (m ≡ old.count)) {size : ℕ} (of_pairs : size ≡ turns_most * n * m) where
+  pub pairs_counted : size ≡ pair_count new old
+  pairs_counted = of_pairs ∙ (rw (counted.0, counted.1))
 
-pub none_applies :
-    {new : Table} {new_names : List ℕ} {old : Table} {old_names marks path scratch : List ℕ} {size : ℕ} → well_formed new new_names ≡ true
-    → well_formed old old_names ≡ true → size ≡ pair_count new old → size ≤ length marks → size ≤ length path → size + size ≤ length scratch
-    → NoRefusal new new_names old old_names (record { marks = marks; path = path; scratch = scratch })
-none_applies {new} {old} f g e m p s =
-    record {
-      new_formed = f;
-      old_formed = g;
-      marks_long = omega arith;
-      path_long = omega arith;
-      scratch_long = omega (arith, s, twice_scratch new old e);
-    }
-
--- a part that was written, taken again
-pub taken_long : {n : ℕ} (a b : List ℕ) → length a ≡ n → n ≡ length (take n (a ++ b))
-taken_long {n} a b l = sym (ap length (take_at a b n l) ∙ l)
+  pub pairs_twice : size + size ≡ scratch_size new old
+  pairs_twice = omega (arith, pairs_counted, scratch_twice new.count old.count)
 
 -- No refusal applies. The search is over the areas' first parts, and so is the reply to its end.
-module _ {new : Table} {new_names : List ℕ} {old : Table} {old_names marks path scratch : List ℕ} (F : NoRefusal new new_names old old_names (record { marks = marks; path = path; scratch = scratch })) {size : ℕ} (e : size ≡ pair_count new old) where
+module _ {new : Table} {new_names : List ℕ} {old : Table} {old_names marks path scratch : List ℕ} (F : NoRefusal new new_names old old_names (record { marks = marks; path = path; scratch = scratch })) {n m : ℕ} (counted : (n ≡ new.count) × (m ≡ old.count)) {size : ℕ} (of_pairs : size ≡ turns_most * n * m) where
+  e : size ≡ pair_count new old
+  e = pairs_counted new old counted of_pairs
+
+  d : size + size ≡ scratch_size new old
+  d = pairs_twice new old counted of_pairs
+
   pub marks_part : length (take size marks) ≡ size
   marks_part = part_long marks (omega (arith, e, F.marks_long))
 
   pub path_part : length (take size path) ≡ size
   path_part = part_long path (omega (arith, e, F.path_long))
 
-  pub scratch_part : length (take (size + size) scratch) ≡ size + size
-  scratch_part = part_long scratch (omega (arith, twice_scratch new old e, F.scratch_long))
+  scratch_part : length (take (size + size) scratch) ≡ size + size
+  scratch_part = part_long scratch (omega (arith, d, F.scratch_long))
 
-  module _ {marks₁ scratch₁ : List ℕ} (l₁ : length marks₁ ≡ size) (k₁ : length scratch₁ ≡ size + size) {n m : ℕ} (en : n ≡ new.count) (em : m ≡ old.count) {ended : Ended} (E : EndedAt new new_names old old_names marks₁ scratch₁ ended) where
-    pub conclude_asks :
-        Concludable n m (take size (marks₁ ++ drop size marks)) (take size path)
-        (take (size + size) (scratch₁ ++ drop (size + size) scratch)) ended.tail
+  pub explore_asks :
+      (well_formed new new_names ≡ true) × (well_formed old old_names ≡ true) × (length (take size marks) ≡ pair_count new old)
+      × (length (take (size + size) scratch) ≡ scratch_size new old)
+  explore_asks = (F.new_formed, F.old_formed, marks_part ∙ e, scratch_part ∙ d)
+
+  module _ {marks₁ scratch₁ : List ℕ} {ended : Result ℕ FirstMismatch} (E : EndedAt new new_names old old_names marks₁ scratch₁ ended) where
+    pub conclude_asks : Concludable n m ended marks₁ (take size path) scratch₁
     conclude_asks =
-        let X = formed F.new_formed in
-        let Y = formed F.old_formed in
         record {
-          new_some = omega (arith, en, X.some_node);
-          old_some = omega (arith, em, Y.some_node);
-          new_few = omega (arith, en, X.few_nodes);
-          old_few = omega (arith, em, Y.few_nodes);
-          queue =
-              rw (
-                take_at marks₁ (drop size marks) size l₁,
-                take_at scratch₁ (drop (size + size) scratch) (size + size) k₁,
-                en,
-                em,
-              )
-              E.state.queue;
-          path_long = rw (en, em) (omega (arith, path_part, e));
+          path_long = omega (arith, path_part, of_pairs);
+          entry =
+              λ w is.
+              let W = rw is at E in record { tail = W.tail; queue = rw (counted.0, counted.1) W.state.queue; within = W.within };
         }
 
     pub replaces_concluded :
         {marks₂ path₂ scratch₂ : List ℕ} {v : Verdict} → length marks₂ ≡ size → length path₂ ≡ size
-        → Concludes n m ended (take size (marks₁ ++ drop size marks)) (take size path)
-        (take (size + size) (scratch₁ ++ drop (size + size) scratch)) marks₂ path₂ scratch₂ v
+        → Concludes n m ended marks₁ (take size path) scratch₁ marks₂ path₂ scratch₂ v
         → Replaces new new_names old old_names (record { marks = marks; path = path; scratch = scratch })
-        (record {
-          marks = marks₂ ++ drop size (marks₁ ++ drop size marks);
-          path = path₂ ++ drop size path;
-          scratch = scratch₂ ++ drop (size + size) (scratch₁ ++ drop (size + size) scratch);
-        })
-        v
+        (record { marks = marks₂ ++ drop size marks; path = path₂ ++ drop size path; scratch = scratch₂ ++ drop (size + size) scratch })
+        (Ok v)
     replaces_concluded {marks₂} {path₂} {scratch₂} {v} l₂ p₂ C =
-        let d : size + size ≡ scratch_size new old = twice_scratch new old e in
         let parts : NoRefusal new new_names old old_names
         (record { marks = take size marks; path = take size path; scratch = take (size + size) scratch }) =
         rw (d, e) (parts_no_refusal F) in
-        let ended_there : EndedAt new new_names old old_names (take size (marks₁ ++ drop size marks))
-        (take (size + size) (scratch₁ ++ drop (size + size) scratch)) ended =
-        rw (take_at marks₁ (drop size marks) size l₁, take_at scratch₁ (drop (size + size) scratch) (size + size) k₁) E in
         let R =
         C.replies new new_names old old_names
-        (record { marks = take size marks; path = take size path; scratch = take (size + size) scratch }) en em parts
-        (marks_part ∙ e) (scratch_part ∙ d) refl ended_there in
-        rw (drop_at marks₁ (drop size marks) size l₁, drop_at scratch₁ (drop (size + size) scratch) (size + size) k₁, d, e)
-        (replaces_longer F (l₂ ∙ e) (p₂ ∙ e) v (rw (d, e) at R))
+        (record { marks = take size marks; path = take size path; scratch = take (size + size) scratch }) counted.0 counted.1 parts
+        (marks_part ∙ e) (scratch_part ∙ d) refl E in
+        rw (d, e) (replaces_longer F (l₂ ∙ e) (p₂ ∙ e) v (rw (d, e) at R))

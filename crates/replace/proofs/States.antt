@@ -3,33 +3,57 @@
 use mathlib.Core.List.{List}
 use mathlib.Core.Option.{Option, none, some, some-injective}
 use mathlib.Core.Path.{◌≡◌, refl, sym, ap, subst, ◌∙◌}
-use Prim.Native.Nat.{ℕ, zero, suc, ◌+◌, ◌<◌, ◌≤◌}
+use Rattle.std.specs.Prelude.{Result, Ok, Err}
+use Prim.Native.Nat.{ℕ, zero, suc, ◌+◌, ◌*◌, ◌<◌, ◌≤◌}
 use native.Mathlib.Decide.{ℕ_discrete}
 use native.Mathlib.Numerals.{add-one}
 use native.Mathlib.Omega.{arith}
 use lib.ListN.{get_or, replicate, length-replicate}
 use lib.Seq.{get_or-set_same}
-use Rattle.rules.specs.Numbers.{labels_most}
+use Rattle.rules.specs.Numbers.{table_nodes_most, labels_most}
 use Rattle.rules.specs.Tables.{node_at}
-use Rattle.rules.specs.Pairs.{Pair, Step, starts, mismatch_at, step_at, left_in, right_in}
-use Rattle.rules.specs.Replies.{pair_count, mark_place}
+use Rattle.rules.specs.Pairs.{Pair, Step, turns_most, starts, beside, mismatch_of, mismatch_at, step_of, step_at, landed, left_in, right_in}
+use Rattle.rules.specs.Replies.{pair_count, scratch_size, mark_place}
 use Rattle.rules.proofs.Basics.{none_some}
-use Rattle.rules.proofs.Formed.{WellFormed}
-use Rattle.rules.proofs.Places.{pair_at, place_below, pair_at_place, pair_at_within, pairs_few}
+use Rattle.rules.proofs.Formed.{FormedNode, WellFormed}
+use Rattle.rules.proofs.Places.{place, pair_in, pair_at, place_below, pair_at_place, pair_at_within, pairs_few, scratch_twice}
 use Rattle.rules.proofs.Runs.{starts_within}
 use Rattle.rules.proofs.Searching.{Searched, search_begins, search_skips, search_passes, search_expanded, search_pushes}
-use Rattle.rules.proofs.Steps.{Within, left_formed, right_formed, step_within, step-numbered}
+use Rattle.rules.proofs.Steps.{Inside, Within, step_within, step-numbered}
 use Rattle.search.specs.Queue.{Kept, Queue, begun, visited}
-use Rattle.search.proofs.Queues.{queue_begun, queue_fits, queue_visited, visited-met, visited_tail, visited_entry, entry_kept}
+use Rattle.search.proofs.Queues.{queue_begun, queue_visited, visited-met, visited_tail, visited_entry, entry_kept}
 use Rattle.search.proofs.Runs.{run_start, run_kept, run_new}
+use Rattle.table.specs.declared.Node.{Node}
 use Rattle.table.specs.declared.Table.{Table}
 use Rattle.table.specs.declared.answers.Mismatch.{Mismatch}
-use Rattle.table.specs.declared.answers.Mismatch.TheVariants.{Nothing}
-use Rattle.replace.specs.State.{pair_of, run_of, State, EndedAt}
+use Rattle.replace.specs.State.{pair_of, run_of, State, WrongAt}
 use Rattle.replace.specs.Taking.{place_of, stepped, expanded, Ready, Formed, Takes}
-use Rattle.replace.specs.declared.Taken.{Taken}
+use Rattle.replace.specs.declared.sizes.Sizes.{Sizes}
+use Rattle.replace.specs.declared.entry.Side.{Side}
+use Rattle.replace.specs.declared.entry.Entry.{Entry}
 
-module _ (new : Table) (new_names : List ℕ) (old : Table) (old_names : List ℕ) (new_formed : WellFormed new new_names) (old_formed : WellFormed old old_names) where
+-- of two sides the left and the right one, as of two nodes and of two name bytes
+sides_apart :
+    {A : Type 0} (f : Node → List ℕ → Node → List ℕ → A) (u : ℕ) (x y : Side)
+    → f (left_in u x y).node.now (left_in u x y).names.now (right_in u x y).node.now (right_in u x y).names.now
+    ≡ f (left_in u x.node.now y.node.now) (left_in u x.names.now y.names.now) (right_in u x.node.now y.node.now) (right_in u x.names.now y.names.now)
+sides_apart f zero x y = refl
+sides_apart f (suc u) x y = refl
+
+module _ {n m : ℕ} (x y : Side) where
+  left_side_formed :
+      (u : ℕ) → FormedNode n x.names.now x.node.now → FormedNode m y.names.now y.node.now
+      → FormedNode (left_in u n m) (left_in u x y).names.now (left_in u x y).node.now
+  left_side_formed zero f g = f
+  left_side_formed (suc u) f g = g
+
+  right_side_formed :
+      (u : ℕ) → FormedNode n x.names.now x.node.now → FormedNode m y.names.now y.node.now
+      → FormedNode (right_in u n m) (right_in u x y).names.now (right_in u x y).node.now
+  right_side_formed zero f g = g
+  right_side_formed (suc u) f g = f
+
+module _ {new : Table} {new_names : List ℕ} {old : Table} {old_names : List ℕ} (new_formed : WellFormed new new_names) (old_formed : WellFormed old old_names) where
   abbrev N : ℕ
   N = pair_count new old
 
@@ -37,7 +61,7 @@ module _ (new : Table) (new_names : List ℕ) (old : Table) (old_names : List �
   few = pairs_few new_formed.few_nodes old_formed.few_nodes
 
   -- the queue holds the starts alone
-  pub state_begins : State new new_names old old_names (begun N (mark_place new old (starts new old))) 0 0 0
+  state_begins : State new new_names old old_names (begun N (mark_place new old (starts new old))) 0 0 0
   state_begins =
       let w : Within new old (starts new old) = starts_within new_formed old_formed in
       let l = place_below w in
@@ -50,6 +74,30 @@ module _ (new : Table) (new_names : List ℕ) (old : Table) (old_names : List �
             search_begins (pair_of new new_names old old_names k) (run_of new new_names old old_names k)
             (ap (pair_at new old) e ∙ pair_at_place w) (run_start N k.marks k.scratch);
       }
+
+  pub sizes_asked : (0 < new.count) × (0 < old.count) × (new.count ≤ table_nodes_most) × (old.count ≤ table_nodes_most)
+  sizes_asked = (new_formed.some_node, old_formed.some_node, new_formed.few_nodes, old_formed.few_nodes)
+
+  -- what is asked to begin, of areas that are just as long as is needed
+  module _ {n m : ℕ} (counted : (n ≡ new.count) × (m ≡ old.count)) {i j : ℕ} (at : (i ≡ new.start) × (j ≡ old.start)) where
+    pub starts_inside : Inside n m (record { turn = 0; new = i; old = j })
+    starts_inside = rw (counted.0, counted.1, at.0, at.1) (starts_within new_formed old_formed)
+
+    module _ {size start : ℕ} (of_pairs : size ≡ turns_most * n * m) (of_starts : start ≡ place n m (record { turn = 0; new = i; old = j })) where
+      pub begin_asks :
+          {marks scratch : ℕ} → marks ≡ N → scratch ≡ scratch_size new old
+          → (start < size) × (size ≤ 32768) × (marks ≡ size) × (scratch ≡ size + size)
+      begin_asks m s =
+          let e : size ≡ N = of_pairs ∙ (rw (counted.0, counted.1)) in (
+            rw (of_pairs, of_starts) (place_below starts_inside),
+            omega (arith, e, few),
+            m ∙ sym e,
+            omega (arith, s, e, scratch_twice new.count old.count),
+          )
+
+      pub begun_state : {k : Kept} → k ≡ begun size start → State new new_names old old_names k 0 0 0
+      begun_state e =
+          rw (e, of_pairs, of_starts, counted.0, counted.1, at.0, at.1) state_begins
 
   entry_within : {k : Kept} {h : ℕ} → Queue N k → h < k.tail → Within new old (pair_of new new_names old old_names k h)
   entry_within {k} {h} Q l = pair_at_within new.count old.count (get_or k.scratch h 0) (Q.inside h l)
@@ -146,95 +194,82 @@ module _ (new : Table) (new_names : List ℕ) (old : Table) (old_names : List �
   expands p h k G (suc s) =
       subst (λ (n : ℕ). Going p h n (expanded N h (ahead p) (suc s) k)) (add-one s) (steps p h s (expanded N h (ahead p) s k) (expands p h k G s))
 
-  -- what came of an entry whose pair is p
-  abbrev Came : Pair → ℕ → Kept → Kept → Taken → Type 0
-  Came p h k k' r =
-      Takes new.count old.count p.turn h (left_in p.turn (node_at new p.new) (node_at old p.old))
-      (left_in p.turn new_names old_names) (right_in p.turn (node_at new p.new) (node_at old p.old))
-      (right_in p.turn new_names old_names) k k' r
+  -- Entry h, whose pair was read as p.
+  module _ {k : Kept} {h : ℕ} (I : State new new_names old old_names k h h 0) (l : h < k.tail) (sizes : Sizes) (counted : (sizes.new ≡ new.count) × (sizes.old ≡ old.count)) {a : ℕ} {p : Pair} (at : a ≡ get_or k.scratch h 0) (is : p ≡ pair_in sizes.new sizes.old a) where
+    this : pair_of new new_names old old_names k h ≡ p
+    this = sym (is ∙ (rw (counted.0, counted.1, at)))
 
-  -- Entry h, whose place is a.
-  module _ {k : Kept} {h a : ℕ} (I : State new new_names old old_names k h h 0) (l : h < k.tail) (at : a ≡ get_or k.scratch h 0) where
-    pub entry_read : h + 1 < 65536
-    entry_read = omega (arith, l, queue_fits I.queue, few)
+    pub entry_inside : Within new old p
+    entry_inside = subst (Within new old) this (entry_within I.queue l)
 
-    pub entry_room : h < N
-    entry_room = omega (arith, l, queue_fits I.queue)
+    abbrev here : p.turn < turns_most → Entry
+    here t = record { sizes = sizes; turn = p.turn; at = h; turn_below = t }
 
-    pub entry_inside : Within new old (pair_at new old a)
-    entry_inside = pair_at_within new.count old.count a (rw at (I.queue.inside h l))
+    pub entry_ready : (t : p.turn < turns_most) → Ready (here t) k
+    entry_ready t = record { queue = rw (counted.0, counted.1) I.queue; entry = l }
 
-    pub entry_ready : Ready new.count old.count (pair_at new old a).turn h k
-    entry_ready =
-        record {
-          new_few = new_formed.few_nodes;
-          old_few = old_formed.few_nodes;
-          turn_below = entry_inside.turn_below;
-          queue = I.queue;
-          entry = l;
-        }
+    module _ (x y : Side) (X : (x.node.now ≡ node_at new p.new) × (x.names.now ≡ new_names)) (Y : (y.node.now ≡ node_at old p.old) × (y.names.now ≡ old_names)) where
+      pub entry_nodes : (t : p.turn < turns_most) → Formed (here t) (left_in p.turn x y) (right_in p.turn x y)
+      entry_nodes t =
+          let f : FormedNode sizes.new x.names.now x.node.now = rw (X.0, X.1, counted.0) (new_formed.each p.new entry_inside.new_below) in
+          let g : FormedNode sizes.old y.names.now y.node.now = rw (Y.0, Y.1, counted.1) (old_formed.each p.old entry_inside.old_below) in
+          record { left = left_side_formed x y p.turn f g; right = right_side_formed x y p.turn f g }
 
-    abbrev p : Pair
-    p = pair_at new old a
+      -- what is asked of the two nodes of the pair
+      same_sides :
+          {A : Type 0} (f : Node → List ℕ → Node → List ℕ → A)
+          → f (left_in p.turn x y).node.now (left_in p.turn x y).names.now (right_in p.turn x y).node.now (right_in p.turn x y).names.now
+          ≡ beside new new_names old old_names f p
+      same_sides f = sides_apart f p.turn x y ∙ (rw (X.0, X.1, Y.0, Y.1))
 
-    pub entry_nodes :
-        Formed new.count old.count p.turn (left_in p.turn (node_at new p.new) (node_at old p.old))
-        (left_in p.turn new_names old_names) (right_in p.turn (node_at new p.new) (node_at old p.old))
-        (right_in p.turn new_names old_names)
-    entry_nodes =
-        let x = new_formed.each p.new entry_inside.new_below in
-        let y = old_formed.each p.old entry_inside.old_below in
-        record { left = left_formed p.turn x y; right = right_formed p.turn x y }
+      abbrev Came : List ℕ → List ℕ → Result ℕ Mismatch → Type 0
+      Came = Takes (here entry_inside.turn_below) (left_in p.turn x y) (right_in p.turn x y) k
 
-    -- nothing was wrong, and every step was taken
-    pub entry_expanded :
-        {k' : Kept} {r : Taken} → Came p h k k' r → r.wrong ≡ Nothing → State new new_names old old_names k' (h + 1) (h + 1) 0
-    unfolding mismatch_at step_at
-    entry_expanded {k'} T e =
-        let this : pair_of new new_names old old_names k h ≡ p = ap (pair_at new old) (sym at) in
-        let G : Going p h 0 k =
-        record {
-          state =
-              record {
-                queue = I.queue;
-                searched =
-                    search_passes I.searched (ap (mismatch_at new new_names old old_names) this ∙ sym T.wrong ∙ e);
-              };
-          there = l;
-          this = this;
-        } in
-        let E = subst (Going p h labels_most) (sym (T.goes_on e)) (expands p h k G labels_most) in
-        record {
-          queue = E.state.queue;
-          searched =
-              search_expanded E.state.searched E.there
-              (λ s q S. step-numbered new_formed old_formed (entry_within E.state.queue E.there) S);
-        }
+      module _ {marks scratch : List ℕ} where
+        -- nothing was wrong, and every step was taken
+        pub entry_expanded :
+            {end : ℕ} → Came marks scratch (Ok end)
+            → State new new_names old old_names (record { marks = marks; scratch = scratch; tail = end }) (h + 1) (h + 1) 0
+        unfolding mismatch_at step_at
+        entry_expanded {end} T =
+            let G : Going p h 0 k =
+            record {
+              state =
+                  record {
+                    queue = I.queue;
+                    searched =
+                        search_passes I.searched (ap (mismatch_at new new_names old old_names) this ∙ sym (same_sides mismatch_of) ∙ T.0);
+                  };
+              there = l;
+              this = this;
+            } in
+            let by : ℕ → ℕ → Node → List ℕ → Node → List ℕ → Kept =
+            λ n m x xs y ys. expanded (turns_most * n * m) h (λ s. place_of n m (landed p.turn (step_of x xs y ys s))) labels_most k in
+            let taken : record { marks = marks; scratch = scratch; tail = end } ≡ expanded N h (ahead p) labels_most k =
+            T.1 ∙ same_sides (by sizes.new sizes.old)
+            ∙ ap (λ (n : ℕ). beside new new_names old old_names (by n sizes.old) p) counted.0
+            ∙ ap (λ (m : ℕ). beside new new_names old old_names (by new.count m) p) counted.1 in
+            let E = subst (Going p h labels_most) (sym taken) (expands p h k G labels_most) in
+            record {
+              queue = E.state.queue;
+              searched =
+                  search_expanded E.state.searched E.there
+                  (λ s q S. step-numbered new_formed old_formed (entry_within E.state.queue E.there) S);
+            }
 
-    -- something was wrong
-    pub entry_wrong :
-        {marks scratch : List ℕ} {r : Taken} → Came p h k (record { marks = marks; scratch = scratch; tail = r.tail }) r
-        → (r.wrong ≡ Nothing → ⊥)
-        → EndedAt new new_names old old_names marks scratch (record { at = h; tail = k.tail; wrong = r.wrong })
-    unfolding mismatch_at
-    entry_wrong {marks} {scratch} {r} T ne =
-        let e = T.stays ne in
-        let b : marks ≡ k.marks = ap (λ (x : Kept). x.marks) e in
-        let d : scratch ≡ k.scratch = ap (λ (x : Kept). x.scratch) e in
-        record {
-          state =
-              subst (λ (x : Kept). State new new_names old old_names x h h 0)
-              (λ i. record { marks = sym b i; scratch = sym d i; tail = k.tail }) I;
-          wrong =
-              λ m.
-              T.wrong
-              ∙ ap (λ (x : ℕ). mismatch_at new new_names old old_names (pair_at new old x))
-              (at ∙ ap (λ (x : List ℕ). get_or x h 0) (sym d));
-          is_wrong = λ m. ne;
-        }
-
-  -- the queue's end
-  pub ended_all :
-      {k : Kept} {h : ℕ} {w : Mismatch} → State new new_names old old_names k h h 0 → k.tail ≤ h
-      → EndedAt new new_names old old_names k.marks k.scratch (record { at = h; tail = k.tail; wrong = w })
-  ended_all I l = record { state = I; wrong = λ m. absurd (omega arith); is_wrong = λ m. absurd (omega arith) }
+        -- something was wrong
+        pub entry_wrong :
+            {w : Mismatch} → Came marks scratch (Err w)
+            → WrongAt new new_names old old_names marks scratch (record { at = h; mismatch = w })
+        unfolding mismatch_at
+        entry_wrong {w} T =
+            record {
+              tail = k.tail;
+              within = l;
+              state =
+                  subst (λ (z : Kept). State new new_names old old_names z h h 0)
+                  (λ i. record { marks = sym T.1 i; scratch = sym T.2 i; tail = k.tail }) I;
+              wrong =
+                  ap (λ (z : List ℕ). mismatch_at new new_names old old_names (pair_at new old (get_or z h 0))) T.2
+                  ∙ ap (mismatch_at new new_names old old_names) this ∙ sym (same_sides mismatch_of) ∙ T.0;
+            }

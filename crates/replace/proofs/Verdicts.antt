@@ -4,27 +4,23 @@ use mathlib.Core.Bool.{true}
 use mathlib.Core.List.{List, [], ◌++◌, map, append-nil}
 use mathlib.Core.Path.{◌≡◌, refl, sym, ap, subst, ◌∙◌}
 use mathlib.Mathlib.Data.Bool.Basic.{Bool-eq-false}
-use Prim.Native.Nat.{ℕ, zero, suc, ◌<◌, ◌≤◌, ◌+◌, ◌*◌}
+use Prim.Native.Nat.{ℕ, zero, suc, ◌*◌}
 use native.Mathlib.Omega.{arith}
 use lib.ListN.{length, get_or, drop, replicate, drop_of_length-le}
 use lib.Seq.{take_all}
-use Rattle.rules.specs.Formed.{well_formed}
-use Rattle.rules.specs.Pairs.{Pair, turns_most, starts, mismatch_at, reason, detail}
+use Rattle.std.specs.Prelude.{Result, Ok, Err, Some}
+use Rattle.rules.specs.Pairs.{Wrong, Pair, turns_most, mismatch_at}
 use Rattle.rules.specs.Replies.{Areas, NoRefusal, Replaces, says_yes, says_no, pair_count, scratch_size, mark_place, mark, count_marks, cleared}
-use Rattle.rules.proofs.Formed.{formed}
-use Rattle.rules.proofs.Places.{pair_in, pair_at, place_below, pair_at_place, place_pair_at, pairs_few, scratch_twice}
-use Rattle.rules.proofs.Runs.{starts_within}
-use Rattle.rules.proofs.Searching.{Searched, entered, entered_at, entered_where, search_earliest, search_smallest}
+use Rattle.rules.proofs.Places.{pair_at, pair_at_place, place_pair_at, scratch_twice}
+use Rattle.rules.proofs.Searching.{entered, entered_at, entered_where, search_earliest, search_smallest}
 use Rattle.rules.proofs.Steps.{Within}
-use Rattle.search.specs.Queue.{Kept, Queue, RunLeft, begun, settled}
+use Rattle.search.specs.Queue.{Kept, Queue, RunLeft, settled}
 use Rattle.search.proofs.Marks.{settled_at, settled-length, settled_count}
 use Rattle.table.specs.declared.Table.{Table}
 use Rattle.table.specs.declared.answers.Found.{Found}
-use Rattle.table.specs.declared.answers.Mismatch.{Mismatch}
 use Rattle.table.specs.declared.answers.Verdict.TheVariants as the
-use Rattle.replace.specs.State.{pair_of, run_of, State, EndedAt, found_at, Concludes}
-use Rattle.replace.specs.declared.Ended.{Ended}
-use Rattle.replace.proofs.States.{state_begins}
+use Rattle.replace.specs.State.{pair_of, run_of, State, WrongAt, found_at, Concludes}
+use Rattle.replace.specs.declared.FirstMismatch.{FirstMismatch}
 
 nothing_behind : (k : ℕ) (s : List ℕ) → length s ≡ k → drop k s ≡ []
 nothing_behind k s l = drop_of_length-le s {i = k} (omega arith)
@@ -61,28 +57,24 @@ module _ (new : Table) (new_names : List ℕ) (old : Table) (old_names : List �
             (subst (λ (q : Pair). entered (pair_of new new_names old old_names k) k.tail q ≡ true) at
             (entered_at (pair_of new new_names old old_names k) k.tail v.0 v.1)))
 
-  module _ {before : Areas} (F : NoRefusal new new_names old old_names before) (marks_exact : length before.marks ≡ N) (scratch_exact : length before.scratch ≡ scratch_size new old) {marks scratch : List ℕ} {r : Ended} (E : EndedAt new new_names old old_names marks scratch r) where
-    scratch_size_twice : length scratch ≡ scratch_size new old
-    scratch_size_twice = E.state.queue.scratch_long ∙ sym (scratch_twice new.count old.count)
+  module _ {before : Areas} (F : NoRefusal new new_names old old_names before) (marks_exact : length before.marks ≡ N) (scratch_exact : length before.scratch ≡ scratch_size new old) {marks scratch : List ℕ} where
+    scratch_size_twice : {tail : ℕ} → Queue N (record { marks = marks; scratch = scratch; tail = tail }) → length scratch ≡ scratch_size new old
+    scratch_size_twice Q = Q.scratch_long ∙ sym (scratch_twice new.count old.count)
 
     -- every entry was looked at
     decided_yes :
-        {marks' scratch' : List ℕ} → r.tail ≤ r.at → marks' ≡ map settled marks → scratch' ≡ replicate (length scratch) 0
-        → Replaces new new_names old old_names before (record { marks = marks'; path = before.path; scratch = scratch' }) (the.Yes r.tail)
-    decided_yes {marks'} {scratch'} l m s =
-        let k : Kept = record { marks = marks; scratch = scratch; tail = r.tail } in
-        let Q = E.state.queue in
-        let done : r.at ≡ r.tail = omega (arith, l, E.state.searched.within) in
-        let I : Searched new new_names old old_names (pair_of new new_names old old_names k) (run_of new new_names old old_names k) r.tail r.tail r.tail 0 =
-        subst
-        (λ (h : ℕ).
-        Searched new new_names old old_names (pair_of new new_names old old_names k) (run_of new new_names old old_names k) r.tail h h 0) done
-        E.state.searched in
+        {tail : ℕ} {marks' scratch' : List ℕ}
+        → State new new_names old old_names (record { marks = marks; scratch = scratch; tail = tail }) tail tail 0
+        → marks' ≡ map settled marks → scratch' ≡ replicate (length scratch) 0
+        → Replaces new new_names old old_names before (record { marks = marks'; path = before.path; scratch = scratch' }) (Ok (the.Yes tail))
+    decided_yes {tail} {marks'} {scratch'} E m s =
+        let k : Kept = record { marks = marks; scratch = scratch; tail = tail } in
+        let Q = E.queue in
         let long : length marks' ≡ N = ap length m ∙ settled-length marks ∙ Q.marks_long in
         says_yes F
         (record {
-          set = entered (pair_of new new_names old old_names k) r.tail;
-          smallest = search_smallest I;
+          set = entered (pair_of new new_names old old_names k) tail;
+          smallest = search_smallest E.searched;
           size = long ∙ sym marks_exact;
           marked =
               λ p t n o.
@@ -92,93 +84,61 @@ module _ (new : Table) (new_names : List ℕ) (old : Table) (old_names : List �
           counted =
               sym Q.counted ∙ sym (settled_count marks) ∙ ap count_marks (sym m ∙ sym (take_all N marks' (omega (arith, long))));
           path = refl;
-          scratch = s ∙ cleared_all (scratch_size new old) before.scratch scratch_size_twice scratch_exact;
+          scratch = s ∙ cleared_all (scratch_size new old) before.scratch (scratch_size_twice Q) scratch_exact;
         })
 
-    module _ (l : r.at < r.tail) where
-      -- something was wrong at the pair of place a
-      decided_no :
-          {a steps : ℕ} {marks' path' scratch' : List ℕ} {f : Found} → a ≡ get_or scratch r.at 0
-          → RunLeft N marks before.path scratch r.at marks' path' scratch' steps
-          → f ≡ found_at new.count old.count a r.wrong steps
-          → Replaces new new_names old old_names before (record { marks = marks'; path = path'; scratch = scratch' }) (the.No f)
-      decided_no {a} {steps} {f} at L e =
-          let k : Kept = record { marks = marks; scratch = scratch; tail = r.tail } in
-          let I = E.state.searched in
-          says_no F
-          (record {
-            run = run_of new new_names old old_names k r.at;
-            end = pair_of new new_names old old_names k r.at;
-            runs = I.runs r.at l;
-            wrong = λ d. E.is_wrong l (E.wrong l ∙ d);
-            earliest = search_earliest I l;
-            returned =
-                e
-                ∙ ap (λ (x : ℕ). found_at new.count old.count x r.wrong steps) at
-                ∙ ap (λ (w : Mismatch). found_at new.count old.count (get_or scratch r.at 0) w steps) (E.wrong l)
-                ∙ ap
-                (found_at new.count old.count (get_or scratch r.at 0)
-                (mismatch_at new new_names old old_names (pair_at new old (get_or scratch r.at 0)))) L.counted;
-            marks = L.marks_cleared ∙ cleared_all N before.marks E.state.queue.marks_long marks_exact;
-            path = L.written;
-            scratch = L.scratch_cleared ∙ cleared_all (scratch_size new old) before.scratch scratch_size_twice scratch_exact;
-          })
-
--- What is asked to begin, of areas that are just as long as is needed.
-module _ (new : Table) (new_names : List ℕ) (old : Table) (old_names : List ℕ) (new_formed : well_formed new new_names ≡ true) (old_formed : well_formed old old_names ≡ true) where
-  module _ {size start : ℕ} (of_pairs : size ≡ pair_count new old) (of_starts : start ≡ mark_place new old (starts new old)) where
-    pub begin_asks :
-        {marks scratch : ℕ} → marks ≡ pair_count new old → scratch ≡ scratch_size new old
-        → (start < size) × (size ≤ 32768) × (marks ≡ size) × (scratch ≡ size + size)
-    begin_asks m s =
-        let f = formed new_formed in
-        let g = formed old_formed in (
-          omega (arith, of_pairs, of_starts, place_below (starts_within f g)),
-          omega (arith, of_pairs, pairs_few f.few_nodes g.few_nodes),
-          omega arith,
-          omega (arith, s, of_pairs, scratch_twice new.count old.count),
-        )
-
-    pub begun_state : {k : Kept} → k ≡ begun size start → State new new_names old old_names k 0 0 0
-    begun_state e =
-        subst (λ (x : Kept). State new new_names old old_names x 0 0 0)
-        (sym (e ∙ ap (λ (x : ℕ). begun x start) of_pairs ∙ ap (begun (pair_count new old)) of_starts))
-        (state_begins new new_names old old_names (formed new_formed) (formed old_formed))
-
--- what was found, field by field
-pub found_made :
-    (n m a steps : ℕ) (w : Mismatch) {r d : ℕ} → r ≡ reason w → d ≡ detail w
-    → record { reason = r; detail = d; new = (pair_in n m a).new; old = (pair_in n m a).old; turn = (pair_in n m a).turn; steps = steps }
-    ≡ found_at n m a w steps
-found_made n m a steps w e f =
-    λ i.
-    record { reason = e i; detail = f i; new = (pair_in n m a).new; old = (pair_in n m a).old; turn = (pair_in n m a).turn; steps = steps }
+    -- something was wrong at the pair of place a
+    decided_no :
+        {w : FirstMismatch} {a steps : ℕ} {marks' path' scratch' : List ℕ} {f : Found} → WrongAt new new_names old old_names marks scratch w
+        → a ≡ get_or scratch w.at 0 → RunLeft N marks before.path scratch w.at marks' path' scratch' steps
+        → f ≡ found_at new.count old.count a (Some w.mismatch) steps
+        → Replaces new new_names old old_names before (record { marks = marks'; path = path'; scratch = scratch' }) (Ok (the.No f))
+    decided_no {w} {a} {steps} {f} E at L e =
+        let k : Kept = record { marks = marks; scratch = scratch; tail = E.tail } in
+        let I = E.state.searched in
+        says_no F
+        (record {
+          run = run_of new new_names old old_names k w.at;
+          end = pair_of new new_names old old_names k w.at;
+          runs = I.runs w.at E.within;
+          wrong = λ d. cc E.wrong;
+          earliest = search_earliest I E.within;
+          returned =
+              e ∙ ap (λ (i : ℕ). found_at new.count old.count i (Some w.mismatch) steps) at
+              ∙ ap (λ (m : Wrong). found_at new.count old.count (get_or scratch w.at 0) m steps) (sym E.wrong)
+              ∙ ap
+              (found_at new.count old.count (get_or scratch w.at 0)
+              (mismatch_at new new_names old old_names (pair_at new old (get_or scratch w.at 0)))) L.counted;
+          marks = L.marks_cleared ∙ cleared_all N before.marks E.state.queue.marks_long marks_exact;
+          path = L.written;
+          scratch =
+              L.scratch_cleared ∙ cleared_all (scratch_size new old) before.scratch (scratch_size_twice E.state.queue) scratch_exact;
+        })
 
 -- The reply to the search's end, for any tables of these sizes.
-module _ {n m : ℕ} {ended : Ended} {marks path scratch marks' scratch' : List ℕ} where
+module _ {n m : ℕ} {ended : Result ℕ FirstMismatch} {marks path scratch marks' scratch' : List ℕ} where
   pub concluded_yes :
-      ended.tail ≤ ended.at → marks' ≡ map settled marks → scratch' ≡ replicate (length scratch) 0
-      → Concludes n m ended marks path scratch marks' path scratch' (the.Yes ended.tail)
-  concluded_yes l a b =
+      {count : ℕ} → ended ≡ Ok count → marks' ≡ map settled marks → scratch' ≡ replicate (length scratch) 0
+      → Concludes n m ended marks path scratch marks' path scratch' (the.Yes count)
+  concluded_yes {count} is a b =
       record {
         replies =
             λ new new_names old old_names before en em F lm ls ep E.
             subst
             (λ (p : List ℕ).
-            Replaces new new_names old old_names before (record { marks = marks'; path = p; scratch = scratch' }) (the.Yes ended.tail))
-            ep (decided_yes new new_names old old_names F lm ls E l a b);
+            Replaces new new_names old old_names before (record { marks = marks'; path = p; scratch = scratch' }) (Ok (the.Yes count)))
+            ep (decided_yes new new_names old old_names F lm ls (rw is at E) a b);
       }
 
   pub concluded_no :
-      {size a steps : ℕ} {path' : List ℕ} {f : Found} → ended.at < ended.tail → size ≡ turns_most * n * m → a ≡ get_or scratch ended.at 0
-      → RunLeft size marks path scratch ended.at marks' path' scratch' steps → f ≡ found_at n m a ended.wrong steps
-      → Concludes n m ended marks path scratch marks' path' scratch' (the.No f)
-  concluded_no {size} {a} {steps} {path'} l of_size at L e =
+      {w : FirstMismatch} {size a steps : ℕ} {path' : List ℕ} {f : Found} → ended ≡ Err w → size ≡ turns_most * n * m
+      → a ≡ get_or scratch w.at 0 → RunLeft size marks path scratch w.at marks' path' scratch' steps
+      → f ≡ found_at n m a (Some w.mismatch) steps → Concludes n m ended marks path scratch marks' path' scratch' (the.No f)
+  concluded_no {w} {size} {a} {steps} {path'} is of_size at L e =
       record {
         replies =
             λ new new_names old old_names before en em F lm ls ep E.
-            let here : RunLeft (pair_count new old) marks before.path scratch ended.at marks' path' scratch' steps =
-            subst (λ (k : ℕ). RunLeft k marks before.path scratch ended.at marks' path' scratch' steps) (of_size ∙ (rw (en, em)))
-            (subst (λ (p : List ℕ). RunLeft size marks p scratch ended.at marks' path' scratch' steps) (sym ep) L) in
-            decided_no new new_names old old_names F lm ls E l at here (e ∙ (rw (en, em)));
+            let here : RunLeft (pair_count new old) marks before.path scratch w.at marks' path' scratch' steps =
+            rw ep (rw (of_size, en, em) at L) in
+            decided_no new new_names old old_names F lm ls (rw is at E) at here (e ∙ (rw (en, em)));
       }

@@ -1,156 +1,155 @@
 // A case: the areas are filled with one value each, the verdict is asked, and what they then hold is printed: the places that are marked 1
 // (and any other that is not 0, with its mark), the steps, whether scratch is 0 where it may be used, and whether all else stayed.
-use crate::printing;
+use crate::printing::{Shown, steps};
+use reader::read;
 use replace::may_replace;
-use std::io;
+use std::{fmt, io};
 use table::Table;
-use table::answers::Verdict;
+use table::answers::{Refusal, Verdict};
 
-fn fill_bytes(s: &mut [u8], v: u8) {
-    for i in 0..s.len() {
-        s[i] = v;
+// A table, with its name bytes.
+#[derive(Clone, Copy)]
+pub struct Named<'a> {
+    pub table: Table,
+    pub names: &'a [u8],
+}
+
+impl<'a> Named<'a> {
+    pub fn new(table: Table, names: &'a [u8]) -> Self {
+        Named { table, names }
+    }
+
+    pub fn of(text: &'a str) -> Self {
+        let names = text.as_bytes();
+        Named::new(read(names).table, names)
     }
 }
 
-fn fill_numbers(s: &mut [u16], v: u16) {
-    for i in 0..s.len() {
-        s[i] = v;
-    }
+const MARKS: usize = 256;
+
+const PATH: usize = 256;
+
+const SCRATCH: usize = 512;
+
+// What the areas are full of before, marks and the other two.
+#[derive(Clone, Copy)]
+pub struct Full {
+    pub byte: u8,
+    pub number: u16,
 }
 
-// Whether an area holds v from `from` on.
-fn bytes_are(s: &[u8], from: usize, v: u8) -> bool {
-    for i in from..s.len() {
-        if s[i] != v {
-            return false;
-        }
-    }
-    true
+// How many of each area are lent, or used.
+#[derive(Clone, Copy)]
+pub struct Sizes {
+    pub marks: usize,
+    pub path: usize,
+    pub scratch: usize,
 }
 
-// And below `to`.
-fn numbers_are(s: &[u16], from: usize, to: usize, v: u16) -> bool {
-    for i in from..to {
-        if i < s.len() {
-            if s[i] != v {
-                return false;
+const NOTHING: Sizes = Sizes {
+    marks: 0,
+    path: 0,
+    scratch: 0,
+};
+
+// What the areas of a case hold after the verdict, and what is behind the part that was lent.
+#[derive(Clone, Copy)]
+struct Areas {
+    marks: [u8; MARKS],
+    path: [u16; PATH],
+    scratch: [u16; SCRATCH],
+}
+
+// Asks in areas that were full of `full`.
+fn ask(new: &Named, old: &Named, lent: Sizes, full: Full) -> (Result<Verdict, Refusal>, Areas) {
+    let mut marks = [full.byte; MARKS];
+    let mut path = [full.number; PATH];
+    let mut scratch = [full.number; SCRATCH];
+    let answer = may_replace(
+        new.table,
+        new.names,
+        old.table,
+        old.names,
+        &mut marks[..lent.marks.min(MARKS)],
+        &mut path[..lent.path.min(PATH)],
+        &mut scratch[..lent.scratch.min(SCRATCH)],
+    );
+    let after = Areas {
+        marks,
+        path,
+        scratch,
+    };
+    (answer, after)
+}
+
+impl Areas {
+    fn print_marks(&self, rt: &impl Print, size: usize) -> io::Result<()> {
+        rt.print(", marks")?;
+        for (i, mark) in self.marks.iter().enumerate().take(size) {
+            if *mark != 0 {
+                print!(rt; " {i}")?;
+            }
+            if 1 < *mark {
+                print!(rt; "={mark}")?;
             }
         }
+        Ok(())
     }
-    true
-}
 
-fn print_marks(rt: &impl Print, marks: &[u8], size: usize) -> io::Result<()> {
-    rt.write_all(b", marks")?;
-    for i in 0..marks.len() {
-        if i < size {
-            if marks[i] != 0 {
-                printing::number(rt, i)?;
-            }
-            if 1 < marks[i] {
-                printing::mark(rt, marks[i])?;
-            }
+    fn print_path(&self, rt: &impl Print, steps: usize) -> io::Result<()> {
+        rt.print(", path")?;
+        for step in self.path.iter().take(steps) {
+            print!(rt; " {step}")?;
         }
+        Ok(())
     }
-    Ok(())
-}
 
-fn print_path(rt: &impl Print, path: &[u16], steps: usize) -> io::Result<()> {
-    rt.write_all(b", path")?;
-    for i in 0..path.len() {
-        if i < steps {
-            printing::step(rt, path[i])?;
-        }
+    fn print_scratch(&self, rt: &impl Print, twice: usize) -> io::Result<()> {
+        let cleared = self.scratch.iter().take(twice).all(|number| *number == 0);
+        rt.print(if cleared {
+            ", scratch 0"
+        } else {
+            ", scratch not 0"
+        })
     }
-    Ok(())
-}
 
-fn print_rest(rt: &impl Print, kept: bool) -> io::Result<()> {
-    if kept {
-        rt.write_all(b", the rest kept\n")
-    } else {
-        rt.write_all(b", the rest changed\n")
-    }
-}
-
-fn print_scratch(rt: &impl Print, cleared: bool) -> io::Result<()> {
-    if cleared {
-        rt.write_all(b", scratch 0")
-    } else {
-        rt.write_all(b", scratch not 0")
+    // Whether all that is not used is as it was.
+    fn print_rest(&self, rt: &impl Print, used: Sizes, full: Full) -> io::Result<()> {
+        let Full { byte, number } = full;
+        let kept = self.marks.iter().skip(used.marks).all(|x| *x == byte)
+            && self.path.iter().skip(used.path).all(|x| *x == number)
+            && self.scratch.iter().skip(used.scratch).all(|x| *x == number);
+        rt.println(if kept {
+            ", the rest kept"
+        } else {
+            ", the rest changed"
+        })
     }
 }
 
-// Whether the areas hold v and w behind the first `size`, `steps` and `twice`.
-fn rest_kept(
-    marks: &[u8],
-    path: &[u16],
-    scratch: &[u16],
-    size: usize,
-    steps: usize,
-    twice: usize,
-    v: u8,
-    w: u16,
-) -> bool {
-    if !bytes_are(marks, size, v) {
-        return false;
-    }
-    if !numbers_are(path, steps, path.len(), w) {
-        return false;
-    }
-    numbers_are(scratch, twice, scratch.len(), w)
-}
-
-pub fn title(rt: &impl Print, name: &[u8], which: &[u8]) -> io::Result<()> {
-    rt.write_all(name)?;
-    rt.write_all(which)?;
-    rt.write_all(b": ")
-}
-
-fn report(
-    rt: &impl Print,
-    answer: Verdict,
-    size: usize,
-    twice: usize,
-    marks: &[u8],
-    path: &[u16],
-    scratch: &[u16],
-    v: u8,
-    w: u16,
-) -> io::Result<()> {
-    printing::verdict(rt, answer)?;
-    if printing::is_refusal(answer) {
-        print_rest(rt, rest_kept(marks, path, scratch, 0, 0, 0, v, w))?;
-        return Ok(());
-    }
-    let steps = printing::steps(answer);
-    print_marks(rt, marks, size)?;
-    print_path(rt, path, steps)?;
-    print_scratch(rt, numbers_are(scratch, 0, twice, 0))?;
-    print_rest(
-        rt,
-        rest_kept(marks, path, scratch, size, steps, twice, v, w),
-    )
-}
-
-// The areas are full of v and w before; `size` of the marks may be used, and `twice` of scratch.
+// The areas are full of `full` before; `size` of the marks may be used, and twice as much of scratch.
 pub fn show(
     rt: &impl Print,
-    new: Table,
-    new_names: &[u8],
-    old: Table,
-    old_names: &[u8],
-    size: usize,
-    twice: usize,
-    marks: &mut [u8],
-    path: &mut [u16],
-    scratch: &mut [u16],
-    v: u8,
-    w: u16,
+    name: impl fmt::Display + Drop,
+    new: &Named,
+    old: &Named,
+    size: u8,
+    lent: Sizes,
+    full: Full,
 ) -> io::Result<()> {
-    fill_bytes(marks, v);
-    fill_numbers(path, w);
-    fill_numbers(scratch, w);
-    let answer = may_replace(new, new_names, old, old_names, marks, path, scratch);
-    report(rt, answer, size, twice, marks, path, scratch, v, w)
+    let (answer, after) = ask(new, old, lent, full);
+    print!(rt; "{name}: {}", Shown(answer))?;
+    if answer.is_err() {
+        return after.print_rest(rt, NOTHING, full);
+    }
+    let marks = usize::from(size);
+    let used = Sizes {
+        marks,
+        path: steps(answer),
+        scratch: 2 * marks,
+    };
+    after.print_marks(rt, used.marks)?;
+    after.print_path(rt, used.path)?;
+    after.print_scratch(rt, used.scratch)?;
+    after.print_rest(rt, used, full)
 }

@@ -1,127 +1,68 @@
 // Tables made by hand: such as are not well formed, and such as have rubbish in their unused room.
-use crate::areas;
-use showing::rubbish::rubbish;
+use crate::areas::{Full, Named, Sizes, show};
+use showing::rubbish::three;
 use std::io;
-use table::{Item, Kind, Label, NODES_MOST, Node, Slot, Sort, Table};
+use table::{Item, Sort, Table};
 
-// A message of one item, and a choice of one label of two bytes, their unused room full of rubbish.
-fn message(item: Item, next: u8) -> Node {
-    let mut x = rubbish(Kind::Receive);
-    x.items[0] = Slot { item };
-    x.item_count = 1;
-    x.next = next;
-    x
+fn show_made(rt: &impl Print, name: &str, new: &Named, old: &Named) -> io::Result<()> {
+    let lent = Sizes {
+        marks: 18,
+        path: 18,
+        scratch: 36,
+    };
+    show(rt, name, new, old, 18, lent, Full { byte: 9, number: 9 })
 }
 
-fn choice(to: u8) -> Node {
-    let mut x = rubbish(Kind::Choose);
-    x.labels[0] = Label { at: 0, len: 2, to };
-    x.label_count = 1;
-    x
-}
-
-// `+{go: ?(item); end}` in three nodes, started at node `start`.
-fn three(item: Item, count: u8, start: u8) -> Table {
-    let mut nodes = [rubbish(Kind::Send); NODES_MOST];
-    nodes[0] = choice(1);
-    nodes[1] = message(item, 2);
-    nodes[2] = rubbish(Kind::End);
-    Table {
-        nodes,
-        count,
-        start,
+// Tables that are not well formed, held against a good one.
+fn against_good(rt: &impl Print, good: &Named) -> io::Result<()> {
+    let void = Item::OfSort(Sort::Void);
+    for (name, item, count, start) in [
+        ("new with no nodes", void, 0, 0),
+        ("new with 129 nodes", void, 129, 0),
+        ("new starts past its nodes", void, 3, 3),
+        ("new links past its nodes", Item::Session(3), 3, 0),
+    ] {
+        let new = Named::new(three(item, count, start), b"go");
+        show_made(rt, name, &new, good)?;
     }
+    Ok(())
 }
 
-fn show(
-    rt: &impl Print,
-    name: &[u8],
-    new: Table,
-    new_names: &[u8],
-    old: Table,
-    old_names: &[u8],
-) -> io::Result<()> {
-    let mut marks = [0; 18];
-    let mut path = [0; 18];
-    let mut scratch = [0; 36];
-    areas::title(rt, name, b"")?;
-    areas::show(
-        rt,
-        new,
-        new_names,
-        old,
-        old_names,
-        18,
-        36,
-        &mut marks,
-        &mut path,
-        &mut scratch,
-        9,
-        9,
-    )
+// A good table with other name bytes than its own on either side.
+fn named(rt: &impl Print, table: Table, cases: &[(&str, &str, &str)]) -> io::Result<()> {
+    for (name, new, old) in cases {
+        let new = Named::new(table, new.as_bytes());
+        let old = Named::new(table, old.as_bytes());
+        show_made(rt, name, &new, &old)?;
+    }
+    Ok(())
 }
 
 pub fn cases(rt: &impl Print) -> io::Result<()> {
-    let good = three(Item::OfSort(Sort::Void), 3, 0);
-    show(rt, b"rubbish in unused room", good, b"go", good, b"go")?;
-    show(rt, b"other name bytes", good, b"going", good, b"gone")?;
-    show(rt, b"another label", good, b"go", good, b"no")?;
-    show(
+    let void = Item::OfSort(Sort::Void);
+    let good = Named::new(three(void, 3, 0), b"go");
+    show_made(rt, "rubbish in unused room", &good, &good)?;
+    named(
         rt,
-        b"another start",
-        good,
-        b"go",
-        three(Item::OfSort(Sort::Void), 3, 1),
-        b"go",
+        good.table,
+        &[
+            ("other name bytes", "going", "gone"),
+            ("another label", "go", "no"),
+        ],
     )?;
-    show(
+    let started = Named::new(three(void, 3, 1), b"go");
+    show_made(rt, "another start", &good, &started)?;
+    against_good(rt, &good)?;
+    named(
         rt,
-        b"new with no nodes",
-        three(Item::OfSort(Sort::Void), 0, 0),
-        b"go",
-        good,
-        b"go",
+        good.table,
+        &[
+            ("new with short name bytes", "g", "go"),
+            ("old with short name bytes", "go", ""),
+        ],
     )?;
-    show(
-        rt,
-        b"new with 129 nodes",
-        three(Item::OfSort(Sort::Void), 129, 0),
-        b"go",
-        good,
-        b"go",
-    )?;
-    show(
-        rt,
-        b"new starts past its nodes",
-        three(Item::OfSort(Sort::Void), 3, 3),
-        b"go",
-        good,
-        b"go",
-    )?;
-    show(
-        rt,
-        b"new links past its nodes",
-        three(Item::Session(3), 3, 0),
-        b"go",
-        good,
-        b"go",
-    )?;
-    show(rt, b"new with short name bytes", good, b"g", good, b"go")?;
-    show(rt, b"old with short name bytes", good, b"go", good, b"")?;
-    show(
-        rt,
-        b"old of rubbish",
-        good,
-        b"go",
-        three(Item::OfSort(Sort::Void), 4, 0),
-        b"go",
-    )?;
-    show(
-        rt,
-        b"both of rubbish",
-        three(Item::OfSort(Sort::Void), 4, 0),
-        b"go",
-        three(Item::OfSort(Sort::Void), 255, 255),
-        b"",
-    )
+    let four = Named::new(three(void, 4, 0), b"go");
+    show_made(rt, "old of rubbish", &good, &four)?;
+    let all = Named::new(three(void, 255, 255), b"");
+    show_made(rt, "both of rubbish", &four, &all)
 }

@@ -15,7 +15,7 @@ use Rattle.rules.specs.Tokens.{Token, tokens}
 use Rattle.rules.specs.Notation.{Text, Writes}
 use Rattle.rules.specs.Numbers.{text_most}
 use Rattle.rules.specs.Numbering.{Lead, to_node, to_name, to_nothing, definition_leads, definition_count, follow}
-use Rattle.rules.specs.Refusals.{GoesFirst, group, Fault, long_text, no_text_has, none_may_end, at_token, undefined_name, round_name, OneOf, Seen, unseen, seen_after, used_names, defined_names, text_too_long, unexpected, name_twice, never_defined, leads_round}
+use Rattle.rules.specs.Refusals.{GoesFirst, group, Fault, long_text, no_text_has, none_may_end, at_token, undefined_name, round_name, OneOf, Seen, unseen, seen_after, used_names, defined_names, text_too_long, unexpected, name_twice}
 use Rattle.rules.specs.Replies.{Reads, refuses, refused}
 use Rattle.rules.specs.computed.Reading.{Got, token_fault, walk, place, leads_nowhere, undefined, rounds, named, judged, text_from, reading}
 use Rattle.rules.proofs.Machine.{Stack, start}
@@ -26,6 +26,8 @@ use Rattle.rules.proofs.ReadersAgree.{Passes, here, past, passes_shorter, Stops,
 use Rattle.rules.proofs.Refusals.{group_middle, group_late, goes_first_irreflexive}
 use Rattle.rules.proofs.Unexpected.{token_numbers}
 use Rattle.table.specs.declared.answers.Made.{Made}
+use Rattle.table.specs.declared.answers.RefusalKind.{RefusalKind}
+use Rattle.table.specs.declared.answers.RefusalKind.TheVariants as kind
 
 -- A stage of the reading: it has the reply to s, or it has none and P holds behind it.
 data Stage (s : List ℕ) (P : Type 0) : Option Made → Type 0 where
@@ -55,7 +57,7 @@ module _ {s : List ℕ} (short : length s ≤ text_most) where
       go (token_fault z t) refl (λ f. walked k (reached_on R d f) p (omega arith))
     where
       go :
-          (o : Option ℕ) → token_fault z t ≡ o → (token_fault z t ≡ none → Walked s rest J (walk k (seen_after z t) ts))
+          (o : Option RefusalKind) → token_fault z t ≡ o → (token_fault z t ≡ none → Walked s rest J (walk k (seen_after z t) ts))
           → Walked s rest J (elim o as (λ o. Option Made) [ some n ↦ some (refused n t.at) | none ↦ walk k (seen_after z t) ts ])
       go (some n) f g = replied (refuses_reads (reached_fault short R d f))
       go none f g = g f
@@ -63,10 +65,10 @@ module _ {s : List ℕ} (short : length s ≤ text_most) where
   -- where the machine stops behind them
   stopped :
       {K : Stack} {rest : List Token} {z : Seen} → Reached s rest K z → Stops K rest
-      → Reads s (refused unexpected (place (length s) rest))
+      → Reads s (refused kind.Unexpected (place (length s) rest))
   stopped {K = []} {rest = []} R h = absurd h
-  stopped {K = e ∷ K} {rest = []} R h = refuses_reads (reached_end short R)
-  stopped {rest = t ∷ rest} R h = refuses_reads (reached_stuck short R h)
+  stopped {K = e ∷ K} {rest = []} R h = refuses_reads {k = kind.Unexpected} (reached_end short R)
+  stopped {rest = t ∷ rest} R h = refuses_reads {k = kind.Unexpected} (reached_stuck short R h)
 
 -- A search from the front: the first that is bad, or all are good.
 data Search (Good Bad : Token → Type 0) (reply : Token → Made) (ts : List Token) : Option Made → Type 0 where
@@ -117,10 +119,10 @@ module _ (x : Text) where
   Round u = follow x (definition_count x) (to_name u.spelled) ≡ none
 
   abbrev FirstUndefined : List Token → Option Made → Type 0
-  FirstUndefined = Search (λ u. Undefined u → ⊥) Undefined (λ u. refused never_defined u.at)
+  FirstUndefined = Search (λ u. Undefined u → ⊥) Undefined (λ u. refused kind.NeverDefined u.at)
 
   abbrev FirstRound : List Token → Option Made → Type 0
-  FirstRound = Search Leads Round (λ u. refused leads_round u.at)
+  FirstRound = Search Leads Round (λ u. refused kind.LeadsRound u.at)
 
   undefined_search : (ts : List Token) → FirstUndefined ts (undefined x ts)
   unfolding undefined
@@ -130,7 +132,7 @@ module _ (x : Text) where
       go :
           (l : Lead) → definition_leads x 0 t.spelled ≡ l → FirstUndefined ts (undefined x ts)
           → FirstUndefined (t ∷ ts)
-          (elim (leads_nowhere l) as (λ b. Option Made) [ true ↦ some (refused never_defined t.at) | false ↦ undefined x ts ])
+          (elim (leads_nowhere l) as (λ b. Option Made) [ true ↦ some (refused kind.NeverDefined t.at) | false ↦ undefined x ts ])
       go (to_node k) e S = search_on (λ d. let z : ◌≡◌ {A = ℕ} 0 1 = cc in absurd (omega arith)) S
       go (to_name w) e S = search_on (λ d. let z : ◌≡◌ {A = ℕ} 0 1 = cc in absurd (omega arith)) S
       go to_nothing e S = search_here e
@@ -142,7 +144,7 @@ module _ (x : Text) where
     where
       go :
           (o : Option ℕ) → follow x (definition_count x) (to_name t.spelled) ≡ o → FirstRound ts (rounds x ts)
-          → FirstRound (t ∷ ts) (elim o as (λ o. Option Made) [ none ↦ some (refused leads_round t.at) | some k ↦ rounds x ts ])
+          → FirstRound (t ∷ ts) (elim o as (λ o. Option Made) [ none ↦ some (refused kind.LeadsRound t.at) | some k ↦ rounds x ts ])
       go none e S = search_here e
       go (some k) e S = search_on (k, definition_count x, e) S
 
@@ -190,8 +192,8 @@ none_before_long m q l g = go (dec_lt name_twice m) g
     go (no k) (inl h) = omega (arith, group_middle m l (omega arith))
     go (no k) (inr (e, h)) = omega (arith, group_middle m l (omega arith))
 
-pub reads_long : {s : List ℕ} → text_most < length s → Reads s (refused text_too_long 0)
-reads_long {s} l = refuses (long_text l) none_first
+pub reads_long : {s : List ℕ} → text_most < length s → Reads s (refused kind.TextTooLong 0)
+reads_long {s} l = refuses {k = kind.TextTooLong} (long_text l) none_first
   where
     none_first : (m q : ℕ) → Fault s m q → GoesFirst m q text_too_long 0 → ⊥
     none_first m q (long_text k) g = goes_first_irreflexive m q g
@@ -209,7 +211,7 @@ reads_reading s = go (ltb text_most (length s)) refl
         (b : Bool) → ltb text_most (length s) ≡ b
         → Reads s
         (elim b as (λ b. Made) [
-          | true ↦ refused text_too_long 0
+          | true ↦ refused kind.TextTooLong 0
           | false ↦ judged (length s) (tokens s) (text_from (suc (length (tokens s))) (tokens s))
         ])
     go true e = reads_long (ltb-true _ _ e)

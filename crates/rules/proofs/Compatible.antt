@@ -1,6 +1,7 @@
 -- What a yes and a no mean for the two descriptions themselves, where it is asked whether new is compatible with other: after a yes every
 -- pair that a run reaches stands well, and a no leads to the first that does not. The dual is taken apart here once and for all.
 -- Assumes nothing.
+use Rattle.std.specs.Prelude.{None}
 use mathlib.Core.Bool.{true}
 use mathlib.Core.List.{List}
 use mathlib.Core.Logic.{◌↔◌}
@@ -25,7 +26,7 @@ use Rattle.rules.proofs.VerdictAgreement.{verdict_replaces}
 use Rattle.rules.specs.Dual.{original_node, dual}
 use Rattle.rules.specs.Formed.{well_formed}
 use Rattle.rules.specs.Numbers.{table_nodes_most}
-use Rattle.rules.specs.Pairs.{Pair, reason, detail, left_in, right_in, mismatch_of, mismatch_at, starts}
+use Rattle.rules.specs.Pairs.{Wrong, Pair, reason, detail, left_in, right_in, mismatch_of, mismatch_at, starts}
 use Rattle.rules.specs.Replace.{Compatible}
 use Rattle.rules.specs.Replies.{Areas, AsksCompatible, then_verdict, NoRefusal, Replaces, pair_count, scratch_size}
 use Rattle.rules.specs.Runs.{Run, Before}
@@ -35,10 +36,9 @@ use Rattle.table.specs.declared.Node.{Node}
 use Rattle.table.specs.declared.Table.{Table}
 use Rattle.table.specs.declared.answers.Found.{Found}
 use Rattle.table.specs.declared.answers.Made.{Made}
-use Rattle.table.specs.declared.answers.Mismatch.{Mismatch}
-use Rattle.table.specs.declared.answers.Mismatch.TheVariants.{Nothing}
-use Rattle.table.specs.declared.answers.Verdict.{Verdict}
 use Rattle.table.specs.declared.answers.Verdict.TheVariants as the
+use Rattle.std.specs.Prelude.{Ok, Err}
+use Rattle.rules.specs.Replies.{Answer}
 
 -- the pair of new and other that a pair of new and the dual's originals is: they stand behind the turned nodes, in order
 abbrev pub as_carried : Table → Pair → Pair
@@ -48,7 +48,7 @@ as_carried other q = record { turn = q.turn; new = q.new; old = q.old - other.co
 abbrev pub met : Found → Pair
 met f = record { turn = f.turn; new = f.new; old = f.old }
 
-abbrev pub Tells : Found → Mismatch → Type 0
+abbrev pub Tells : Found → Wrong → Type 0
 Tells f m = (f.reason ≡ reason m) × (f.detail ≡ detail m)
 
 module _ (new : Table) (new_names : List ℕ) (other : Table) (other_names : List ℕ) where
@@ -57,7 +57,7 @@ module _ (new : Table) (new_names : List ℕ) (other : Table) (other_names : Lis
   -- over, which are not turned round: node q .old - n of other itself is compared with the node of new, in the pair's turn.
   pub record StandsWell (q : Pair) : Type 0 where
     pub facing : q.old < other.count → (q.turn ≡ 0) × Facing (node_at new q.new) new_names (node_at other q.old) other_names
-    pub carried : other.count ≤ q.old → (q.old - other.count < other.count) × (mismatch_at new new_names other other_names (as_carried other q) ≡ Nothing)
+    pub carried : other.count ≤ q.old → (q.old - other.count < other.count) × (mismatch_at new new_names other other_names (as_carried other q) ≡ None)
 
   -- the run ends at a pair that does not stand well, and no run that goes before it ends at such a pair
   pub record FailsFirst (run : List ℕ) (end : Pair) : Type 0 where
@@ -108,7 +108,7 @@ module _ (new : Table) (new_names : List ℕ) (other : Table) (other_names : Lis
     reached_within : Within new (dual other) q
     reached_within = leads_within new_formed dual_well r (starts new (dual other)) q (starts_within new_formed dual_well) L
 
-    fits_stands : mismatch_at new new_names (dual other) other_names q ≡ Nothing → StandsWell q
+    fits_stands : mismatch_at new new_names (dual other) other_names q ≡ None → StandsWell q
     unfolding mismatch_at
     fits_stands e =
         record {
@@ -120,11 +120,11 @@ module _ (new : Table) (new_names : List ℕ) (other : Table) (other_names : Lis
           carried = λ l. ((carried_node other q.old l reached_within.old_below).0, sym (carried_alike q l reached_within.old_below) ∙ e);
         }
 
-    stands_fits : StandsWell q → mismatch_at new new_names (dual other) other_names q ≡ Nothing
+    stands_fits : StandsWell q → mismatch_at new new_names (dual other) other_names q ≡ None
     unfolding mismatch_at
     stands_fits S = go (dec_lt q.old other.count)
       where
-        go : Dec (q.old < other.count) → mismatch_at new new_names (dual other) other_names q ≡ Nothing
+        go : Dec (q.old < other.count) → mismatch_at new new_names (dual other) other_names q ≡ None
         go (yes l) =
             let (t, F) = S.facing l in
             rw (t, dual-turned other q.old l)
@@ -133,20 +133,20 @@ module _ (new : Table) (new_names : List ℕ) (other : Table) (other_names : Lis
             let m : other.count ≤ q.old = omega arith in carried_alike q m reached_within.old_below ∙ (S.carried m).1
 
     -- a pair that a run reaches stands well exactly if the verdict's search finds nothing wrong with it
-    pub stands_exactly : (mismatch_at new new_names (dual other) other_names q ≡ Nothing) ↔ StandsWell q
+    pub stands_exactly : (mismatch_at new new_names (dual other) other_names q ≡ None) ↔ StandsWell q
     stands_exactly = (fits_stands, stands_fits)
 
 module _ {new : Table} {new_names : List ℕ} {other : Table} {other_names : List ℕ} {before after : Areas} where
   -- the second call was asked of the dual
   asked :
-      {m : Made} {v : Verdict} → AsksCompatible new new_names other other_names before after m (some v)
+      {m : Made} {v : Answer} → AsksCompatible new new_names other other_names before after m (some v)
       → Replaces new new_names (dual other) other_names before after v
   asked (then_verdict {t} {v} e r) =
       subst (λ (d : Table). Replaces new new_names d other_names before after v) (made-dual other other_names t e) r
 
   -- after a yes every pair that a run reaches stands well
   pub compatible_yes :
-      {m : Made} {c : ℕ} → AsksCompatible new new_names other other_names before after m (some (the.Yes c)) → (r : List ℕ) (q : Pair)
+      {m : Made} {c : ℕ} → AsksCompatible new new_names other other_names before after m (some (Ok (the.Yes c))) → (r : List ℕ) (q : Pair)
       → Run new new_names (dual other) other_names r q → StandsWell new new_names other other_names q
   compatible_yes A r q L =
       let (F, Y) = yes_means (asked A) in
@@ -155,7 +155,7 @@ module _ {new : Table} {new_names : List ℕ} {other : Table} {other_names : Lis
 
   -- after a no the steps that the path holds lead to the first that does not
   pub compatible_no :
-      {m : Made} {f : Found} → AsksCompatible new new_names other other_names before after m (some (the.No f))
+      {m : Made} {f : Found} → AsksCompatible new new_names other other_names before after m (some (Ok (the.No f)))
       → FailsFirst new new_names other other_names (take f.steps after.path) (met f)
   compatible_no {f = f} A =
       let (F, X) = no_means (asked A) in
@@ -170,7 +170,7 @@ module _ {new : Table} {new_names : List ℕ} {other : Table} {other_names : Lis
 
   -- and reason and detail are told of new and other
   pub compatible_reason :
-      {m : Made} {f : Found} → AsksCompatible new new_names other other_names before after m (some (the.No f))
+      {m : Made} {f : Found} → AsksCompatible new new_names other other_names before after m (some (Ok (the.No f)))
       → Explained new new_names other other_names f
   compatible_reason {f = f} A =
       let (F, X) = no_means (asked A) in
@@ -189,17 +189,17 @@ module _ {new : Table} {new_names : List ℕ} {other : Table} {other_names : Lis
 
   -- where no refusal applies, yes is the answer exactly if every run stands well
   pub compatible_exactly :
-      {m : Made} {v : Verdict} → NoRefusal new new_names (dual other) other_names before
+      {m : Made} {v : Answer} → NoRefusal new new_names (dual other) other_names before
       → AsksCompatible new new_names other other_names before after m (some v)
-      → ((c : ℕ) × (v ≡ the.Yes c)) ↔ AllStandWell new new_names other other_names
+      → ((c : ℕ) × (v ≡ Ok (the.Yes c))) ↔ AllStandWell new new_names other other_names
   compatible_exactly {m} {v} F A = (λ (c, e). compatible_yes (rw e at A), go v A)
     where
       go :
-          (v : Verdict) → AsksCompatible new new_names other other_names before after m (some v) → AllStandWell new new_names other other_names
-          → (c : ℕ) × (v ≡ the.Yes c)
-      go (the.Yes c) B all = (c, refl)
-      go (the.No f) B all = let X = compatible_no B in absurd (X.wrong (all (take f.steps after.path) (met f) X.runs))
-      go (the.Refused n p) B all = absurd (never_refused F (asked B))
+          (v : Answer) → AsksCompatible new new_names other other_names before after m (some v) → AllStandWell new new_names other other_names
+          → (c : ℕ) × (v ≡ Ok (the.Yes c))
+      go (Ok (the.Yes c)) B all = (c, refl)
+      go (Ok (the.No f)) B all = let X = compatible_no B in absurd (X.wrong (all (take f.steps after.path) (met f) X.runs))
+      go (Err r) B all = absurd (never_refused F (asked B))
 
 -- And so it is without any call: new is compatible with other exactly if every run stands well.
 module _ (new : Table) (new_names : List ℕ) (other : Table) (other_names : List ℕ) where
@@ -216,19 +216,19 @@ module _ (new : Table) (new_names : List ℕ) (other : Table) (other_names : Lis
 
       stands :
           (r : List ℕ) (q : Pair) → Run new new_names (dual other) other_names r q
-          → (mismatch_at new new_names (dual other) other_names q ≡ Nothing) ↔ StandsWell new new_names other other_names q
+          → (mismatch_at new new_names (dual other) other_names q ≡ None) ↔ StandsWell new new_names other other_names q
       stands = stands_exactly new new_names other other_names (formed a) (formed c)
 
       lent : Areas
       lent = areas_for new (dual other)
 
       go :
-          AllStandWell new new_names other other_names → (v : Verdict) (after : Areas) → Replaces new new_names (dual other) other_names lent after v
+          AllStandWell new new_names other other_names → (v : Answer) (after : Areas) → Replaces new new_names (dual other) other_names lent after v
           → Compatible new new_names other other_names
-      go all (the.Yes n) after R = yes-may_replace R
-      go all (the.No f) after R =
+      go all (Ok (the.Yes n)) after R = yes-may_replace R
+      go all (Ok (the.No f)) after R =
           let X = (no_means R).1 in absurd (X.wrong ((stands X.run X.end X.runs).1 (all X.run X.end X.runs)))
-      go all (the.Refused n p) after R =
+      go all (Err r) after R =
           absurd
           (never_refused
           (record {

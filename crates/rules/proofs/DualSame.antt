@@ -11,7 +11,6 @@ use Rattle.rules.specs.Numbers.{table_nodes_most}
 use Rattle.rules.specs.Tables.{node_at, item_count, item_at, label_count, label_at, continuation, is_message, only_if, SameNode, SameTable}
 use Rattle.rules.specs.Formed.{well_formed}
 use Rattle.rules.specs.Dual.{turned_kind, is_session, hands_over_at, hands_over, moved_item, moved_label, remade, turned_node, original_node, originals, dual_count, dual}
-use Rattle.rules.specs.Refusals.{dual_too_large}
 use Rattle.rules.specs.Replies.{made, refused, dual_reply}
 use Rattle.rules.proofs.Basics.{tests_same, some_below_true, some_below_at}
 use Rattle.rules.proofs.Filling.{listed_equal}
@@ -23,6 +22,7 @@ use Rattle.table.specs.declared.Item.{Item}
 use Rattle.table.specs.declared.Slot.{Slot}
 use Rattle.table.specs.declared.Node.{Node}
 use Rattle.table.specs.declared.Table.{Table}
+use Rattle.table.specs.declared.answers.RefusalKind.TheVariants as kind
 
 -- a node made anew
 remade_same : {x y : Node} (k : Kind) (i m : ℕ) → SameNode x y → remade k i m x ≡ remade k i m y
@@ -94,7 +94,7 @@ module _ {t u : Table} (S : SameTable t u) where
           → dual_reply t names ≡ dual_reply u names
       go false f d = dual_not_formed t names f ∙ sym (dual_not_formed u names (formed_too f))
       go true f (yes l) =
-          dual_large t names f l ∙ ap (λ (n : ℕ). refused dual_too_large n) S.count
+          dual_large t names f l ∙ ap (λ (n : ℕ). refused kind.DualTooLarge n) S.count
           ∙ sym (dual_large u names (formed_too f) (omega (arith, counts_same)))
       go true f (no l) =
           dual_given t names f (omega arith) ∙ ap made dual_same ∙ sym (dual_given u names (formed_too f) (omega (arith, counts_same)))

@@ -25,6 +25,8 @@ use Rattle.table.specs.declared.Item.TheVariants.{Session}
 use Rattle.table.specs.declared.Node.{Node}
 use Rattle.table.specs.declared.Table.{Table}
 use Rattle.table.specs.declared.answers.Verdict.TheVariants.{No}
+use Rattle.std.specs.Prelude.{Ok}
+use Rattle.table.specs.declared.answers.Refusal.{Refusal}
 
 abbrev pub A : String
 A = "A = ![A]; end ."
@@ -89,8 +91,8 @@ own_session = prints_printed _ _
 -- the missing label of two texts, for a mismatch of this reason, detail, new node, old node and turn
 abbrev pub missing_of : String → String → ℕ → ℕ → ℕ → ℕ → ℕ → List ℕ
 missing_of new old r d i j t =
-    missing_label (reading (bytes new)).table (bytes new) (reading (bytes old)).table (bytes old)
-    (No (record { reason = r; detail = d; new = i; old = j; turn = t; steps = 0 }))
+    missing_label {E = Refusal} (reading (bytes new)).table (bytes new) (reading (bytes old)).table (bytes old)
+    (Ok (No (record { reason = r; detail = d; new = i; old = j; turn = t; steps = 0 })))
 
 -- By kind and turn: `&` in turn 0 is listed by the new text, `+` in turn 0 by the old one, and in turn 1 by the new one.
 pub late_missing : missing_of N R 23 1 2 2 0 ≡ bytes "late"

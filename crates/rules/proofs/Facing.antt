@@ -1,6 +1,7 @@
 -- Two nodes as the two ends of one line. `Facing` says in plain words when node x fits the dual of node y, and `facing_fits` shows that it
 -- is what the comparison with the turned node asks. A node that the dual carries over unturned is compared as it is: `carried_fits`.
 -- Assumes nothing.
+use Rattle.std.specs.Prelude.{None, Some}
 use mathlib.Core.Bool.{Bool, true, false, not}
 use mathlib.Core.List.{List}
 use mathlib.Core.Logic.Iff
@@ -13,7 +14,7 @@ use borrow.Author.Tests.{eqb-true, eq-eqb, leb-true, le-leb, lt-leb, not-false}
 use Rattle.rules.specs.Basics.{first, same}
 use Rattle.rules.specs.Tables.{item_count, item_at, label_count, spelling, spelling_at, is_choice}
 use Rattle.rules.specs.Dual.{turned_kind, moved_item, turned_node, original_node}
-use Rattle.rules.specs.Pairs.{reason, or_else, unless, at_first, kind_number, kinds_differ, counts_differ, items_agree, item_differs, position, lacks, label_lacking, by_chooser, mismatch_of}
+use Rattle.rules.specs.Pairs.{Wrong, or_else, unless, at_first, kind_number, kinds_differ, counts_differ, items_agree, item_differs, position, lacks, label_lacking, by_chooser, mismatch_of}
 use Rattle.rules.proofs.Basics.{first_found, first_nowhere, first_alike}
 use Rattle.rules.proofs.Remade.{Likewise, turned_twice, turned_likewise, original_likewise, turned_kinds, original_kinds}
 use Rattle.rules.proofs.Steps.{or_else_nothing, unless_nothing, none_lacking}
@@ -39,7 +40,7 @@ pub record Facing (x : Node) (xs : List ℕ) (y : Node) (ys : List ℕ) : Type 0
   pub commands : x.kind ≡ Choose → LabelsIn y ys x xs
 
 -- what is wrong where they do not: the first reason that applies, where 20 says that the kinds are not each other's turned ones
-abbrev pub facing_wrong : Node → List ℕ → Node → List ℕ → Mismatch
+abbrev pub facing_wrong : Node → List ℕ → Node → List ℕ → Wrong
 facing_wrong x xs y ys =
     or_else (unless (eqb (kind_number x.kind) (kind_number (turned_kind y.kind))) mismatch.Kinds)
     (or_else (counts_differ x y)
@@ -72,16 +73,16 @@ kind_one : (a b : Kind) → kind_number a ≡ kind_number b → a ≡ b
 kind_one a b e = sym (kind_numbered a) ∙ ap numbered e ∙ kind_numbered b
 
 -- nothing is wrong at any position, as it is asked
-at_none : (m : ℕ → Mismatch) (n : ℕ) (p : ℕ → Bool) → ((i : ℕ) → i < n → p i ≡ false) → at_first m n p ≡ mismatch.Nothing
+at_none : (m : ℕ → Mismatch) (n : ℕ) (p : ℕ → Bool) → ((i : ℕ) → i < n → p i ≡ false) → at_first m n p ≡ None
 at_none m n p f = rw (le-leb n (first n p) (omega (arith, first_nowhere {p = p} n refl f))) refl
 
-none_at : (m : ℕ → Mismatch) (n : ℕ) (p : ℕ → Bool) → ((i : ℕ) → 0 < reason (m i)) → at_first m n p ≡ mismatch.Nothing → (i : ℕ) → i < n → p i ≡ false
-none_at m n p some e i l =
-    let past : n ≤ first n p = leb-true _ _ (unless_nothing _ (m (first n p)) (some (first n p)) e) in
+none_at : (m : ℕ → Mismatch) (n : ℕ) (p : ℕ → Bool) → at_first m n p ≡ None → (i : ℕ) → i < n → p i ≡ false
+none_at m n p e i l =
+    let past : n ≤ first n p = leb-true _ _ (unless_nothing _ (m (first n p)) e) in
     (first_found n p).before i (omega arith)
 
 module _ (x : Node) (xs : List ℕ) (y : Node) (ys : List ℕ) where
-  labels_in_nothing : LabelsIn x xs y ys → label_lacking x xs y ys ≡ mismatch.Nothing
+  labels_in_nothing : LabelsIn x xs y ys → label_lacking x xs y ys ≡ None
   unfolding label_lacking lacks
   labels_in_nothing f =
       at_none mismatch.Label (label_count x) (lacks x xs y ys)
@@ -94,7 +95,7 @@ module _ (x : Node) (xs : List ℕ) (y : Node) (ys : List ℕ) where
   abbrev unlike : ℕ → Bool
   unlike i = not (items_agree (item_at x i) (item_at y i))
 
-  fits_nothing : Fits x xs y ys → mismatch_of x xs y ys ≡ mismatch.Nothing
+  fits_nothing : Fits x xs y ys → mismatch_of x xs y ys ≡ None
   unfolding mismatch_of kinds_differ counts_differ item_differs
   fits_nothing F =
       let k = eq-eqb (kind_number x.kind) (kind_number y.kind) (ap kind_number F.kinds) in
@@ -102,44 +103,41 @@ module _ (x : Node) (xs : List ℕ) (y : Node) (ys : List ℕ) where
       let i = at_none mismatch.Item (item_count x) unlike (λ i l. ap not (F.items i l)) in
       rw (k, c, i) (go x.kind refl)
     where
-      go : (k : Kind) → x.kind ≡ k → by_chooser k (label_lacking x xs y ys) (label_lacking y ys x xs) ≡ mismatch.Nothing
+      go : (k : Kind) → x.kind ≡ k → by_chooser k (label_lacking x xs y ys) (label_lacking y ys x xs) ≡ None
       go End e = labels_in_nothing y ys x xs (labels_none y ys x xs (ap is_choice (sym F.kinds ∙ e)))
       go Receive e = labels_in_nothing y ys x xs (labels_none y ys x xs (ap is_choice (sym F.kinds ∙ e)))
       go Send e = labels_in_nothing y ys x xs (labels_none y ys x xs (ap is_choice (sym F.kinds ∙ e)))
       go Branch e = labels_in_nothing x xs y ys (F.replies e)
       go Choose e = labels_in_nothing y ys x xs (F.commands e)
 
-  nothing_fits : mismatch_of x xs y ys ≡ mismatch.Nothing → Fits x xs y ys
+  nothing_fits : mismatch_of x xs y ys ≡ None → Fits x xs y ys
   unfolding mismatch_of kinds_differ counts_differ item_differs
   nothing_fits e =
-      let lacking : Kind → Mismatch = λ k. by_chooser k (label_lacking x xs y ys) (label_lacking y ys x xs) in
+      let lacking : Kind → Wrong = λ k. by_chooser k (label_lacking x xs y ys) (label_lacking y ys x xs) in
       let labels = lacking x.kind in
       let a = or_else_nothing (kinds_differ x y) (or_else (counts_differ x y) (or_else (item_differs x y) labels)) e in
       let b = or_else_nothing (counts_differ x y) (or_else (item_differs x y) labels) a.1 in
       let c = or_else_nothing (item_differs x y) labels b.1 in
       record {
-        kinds = kind_one x.kind y.kind (eqb-true _ _ (unless_nothing _ mismatch.Kinds (omega arith) a.0));
-        counts = eqb-true _ _ (unless_nothing _ mismatch.Counts (omega arith) b.0);
-        items = λ i l. not-false _ (none_at mismatch.Item (item_count x) unlike (λ i. omega arith) c.0 i l);
+        kinds = kind_one x.kind y.kind (eqb-true _ _ (unless_nothing _ mismatch.Kinds a.0));
+        counts = eqb-true _ _ (unless_nothing _ mismatch.Counts b.0);
+        items = λ i l. not-false _ (none_at mismatch.Item (item_count x) unlike c.0 i l);
         replies = λ k. none_lacking x xs y ys (sym (ap lacking k) ∙ c.1);
         commands = λ k. none_lacking y ys x xs (sym (ap lacking k) ∙ c.1);
       }
 
-  pub fits_exactly : (mismatch_of x xs y ys ≡ mismatch.Nothing) ↔ Fits x xs y ys
+  pub fits_exactly : (mismatch_of x xs y ys ≡ None) ↔ Fits x xs y ys
   fits_exactly = (nothing_fits, fits_nothing)
 
 -- two tests that are the same at every position find the same wrong
 at_first_alike :
     (w : ℕ → Mismatch) {n m : ℕ} {p q : ℕ → Bool} → n ≡ m → ((i : ℕ) → i < n → p i ≡ q i) → at_first w n p ≡ at_first w m q
 at_first_alike w {n} {m} {p} {q} e f =
-    ap₂ {C = Mismatch} (λ (k l : ℕ). unless (leb k l) (w l)) e (first_alike {p = p} {q = q} e f)
+    ap₂ {C = Wrong} (λ (k l : ℕ). unless (leb k l) (w l)) e (first_alike {p = p} {q = q} e f)
 
-or_else_alike : (a c : Mismatch) {b d : Mismatch} → a ≡ c → (a ≡ mismatch.Nothing → b ≡ d) → or_else a b ≡ or_else c d
-or_else_alike mismatch.Nothing c e f = rw (← e) (f refl)
-or_else_alike mismatch.Kinds c e f = rw (← e) refl
-or_else_alike mismatch.Counts c e f = rw (← e) refl
-or_else_alike (mismatch.Item i) c e f = rw (← e) refl
-or_else_alike (mismatch.Label i) c e f = rw (← e) refl
+or_else_alike : (a c : Wrong) {b d : Wrong} → a ≡ c → (a ≡ None → b ≡ d) → or_else a b ≡ or_else c d
+or_else_alike None c e f = rw (← e) (f refl)
+or_else_alike (Some w) c e f = rw (← e) refl
 
 -- whether items agree does not depend on their links
 moved_right : (n : ℕ) (a b : Item) → items_agree a (moved_item n b) ≡ items_agree a b
@@ -203,9 +201,9 @@ module _ {n m : ℕ} {y z : Node} (S : Likewise n m y z) (ys : List ℕ) (x : No
   rest_right =
       or_else_alike (counts_differ x z) (counts_differ x y) (ap (λ (c : ℕ). unless (eqb (item_count x) c) mismatch.Counts) S.items)
       (λ e.
-      let c : item_count x ≡ item_count y = eqb-true _ _ (unless_nothing _ mismatch.Counts (omega arith) e) ∙ S.items in
-      ap₂ {C = Mismatch} or_else (at_first_alike mismatch.Item refl (λ i l. ap not (agree_right i (omega arith))))
-      (ap₂ {C = Mismatch} (by_chooser x.kind) lacking_right lacking_left))
+      let c : item_count x ≡ item_count y = eqb-true _ _ (unless_nothing _ mismatch.Counts e) ∙ S.items in
+      ap₂ {C = Wrong} or_else (at_first_alike mismatch.Item refl (λ i l. ap not (agree_right i (omega arith))))
+      (ap₂ {C = Wrong} (by_chooser x.kind) lacking_right lacking_left))
 
   module _ (kind : z.kind ≡ y.kind) where
     right_alike : mismatch_of x xs z ys ≡ mismatch_of x xs y ys
@@ -222,10 +220,10 @@ module _ {n m : ℕ} {y z : Node} (S : Likewise n m y z) (ys : List ℕ) (x : No
         (λ _.
         or_else_alike (counts_differ z x) (counts_differ y x) (ap (λ (c : ℕ). unless (eqb c (item_count x)) mismatch.Counts) S.items)
         (λ _.
-        ap₂ {C = Mismatch} or_else
+        ap₂ {C = Wrong} or_else
         (at_first_alike mismatch.Item S.items (λ i l. ap not (agree_left i (omega (arith, S.items)))))
         (ap (λ (k : Kind). by_chooser k (label_lacking z ys x xs) (label_lacking x xs z ys)) kind
-        ∙ ap₂ {C = Mismatch} (by_chooser y.kind) lacking_left lacking_right)))
+        ∙ ap₂ {C = Wrong} (by_chooser y.kind) lacking_left lacking_right)))
 
 module _ (n : ℕ) (x : Node) (xs : List ℕ) (y : Node) (ys : List ℕ) where
   abbrev turned : Likewise n 0 y (turned_node n y)
@@ -252,7 +250,7 @@ module _ (n : ℕ) (x : Node) (xs : List ℕ) (y : Node) (ys : List ℕ) where
       }
 
   -- the dual's node that was turned: when it fits, and what is wrong where it does not
-  pub facing_fits : (mismatch_of x xs (turned_node n y) ys ≡ mismatch.Nothing) ↔ Facing x xs y ys
+  pub facing_fits : (mismatch_of x xs (turned_node n y) ys ≡ None) ↔ Facing x xs y ys
   facing_fits = Iff.trans (fits_exactly x xs (turned_node n y) ys) (from_turned, to_turned)
 
   pub turned_wrong : mismatch_of x xs (turned_node n y) ys ≡ facing_wrong x xs y ys

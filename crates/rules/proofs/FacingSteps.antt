@@ -1,6 +1,7 @@
 -- The steps of two nodes that fit, by the links that they follow: into an item of both, or on from both, and then left and right do not
 -- change places. So a run into the dual comes from the turned nodes to the originals by items only, and never back: `reached_turn`.
 -- Assumes nothing.
+use Rattle.std.specs.Prelude.{None}
 use mathlib.Core.Bool.{Bool, true, false}
 use mathlib.Core.List.{List}
 use mathlib.Core.Logic.{◌⊎◌, inl, inr}
@@ -27,7 +28,6 @@ use Rattle.table.specs.declared.Item.TheVariants.{OfSort, Session}
 use Rattle.table.specs.declared.Label.{Label}
 use Rattle.table.specs.declared.Node.{Node}
 use Rattle.table.specs.declared.Table.{Table}
-use Rattle.table.specs.declared.answers.Mismatch.TheVariants as mismatch
 
 -- an item of x links to k
 abbrev Inward : Node → ℕ → Type 0
@@ -83,7 +83,7 @@ exchanged_follows x y nowhere h = tt
 exchanged_follows x y (onto l r t) (inl (a, b)) = inl (b, a)
 exchanged_follows x y (onto l r t) (inr (a, b, e)) = inr (b, a, e)
 
-node_follows : (x : Node) (xs : List ℕ) (y : Node) (ys : List ℕ) (s : ℕ) → mismatch_of x xs y ys ≡ mismatch.Nothing → Follows x y (step_of x xs y ys s)
+node_follows : (x : Node) (xs : List ℕ) (y : Node) (ys : List ℕ) (s : ℕ) → mismatch_of x xs y ys ≡ None → Follows x y (step_of x xs y ys s)
 unfolding step_of
 node_follows x xs y ys s e = go ((fits_exactly x xs y ys).0 e) x.kind refl
   where

@@ -11,7 +11,8 @@ use lib.ListN.{length, take}
 use lib.Seq.{take_all, take-nil, length-take-le}
 use Rattle.rules.specs.Numbers.{text_most}
 use Rattle.rules.specs.Replies.{Areas, Reads, made}
-use Rattle.rules.specs.Line.{Question, Answers, Prints, first_text, second_text}
+use Rattle.rules.specs.Line.{Answers, Prints, first_text, second_text}
+use Rattle.table.specs.declared.answers.Question.{Question}
 use Rattle.rules.specs.Line as line
 use Rattle.rules.specs.computed.Line.{printed}
 use Rattle.rules.proofs.Agreement.{reads_long}

@@ -1,6 +1,7 @@
 -- Tables that follow others: at the pairs of the others they have no mismatch and no step that the others have not. Then a closed set of
 -- the others, cut down to their pairs, is a closed set of theirs; and tables that follow each other have the same smallest set and yes.
 -- Assumes nothing.
+use Rattle.std.specs.Prelude.{None}
 use mathlib.Core.Bool.{Bool, true, ◌&&◌}
 use mathlib.Core.List.{List}
 use mathlib.Core.Path.{◌≡◌, refl, subst}
@@ -18,7 +19,6 @@ use Rattle.rules.proofs.Runs.{starts_within}
 use Rattle.rules.proofs.Steps.{Inside, Within, step_within}
 use Rattle.table.specs.declared.Node.{Node}
 use Rattle.table.specs.declared.Table.{Table}
-use Rattle.table.specs.declared.answers.Mismatch.TheVariants.{Nothing}
 
 -- new' and old' follow new and old, with the same name bytes
 pub record Follows (new new' : Table) (new_names : List ℕ) (old old' : Table) (old_names : List ℕ) : Type 0 where
@@ -27,8 +27,8 @@ pub record Follows (new new' : Table) (new_names : List ℕ) (old old' : Table) 
   pub new_start : new.start ≡ new'.start
   pub old_start : old.start ≡ old'.start
   pub fits :
-      (p : Pair) → Within new old p → mismatch_at new new_names old old_names p ≡ Nothing
-      → mismatch_at new' new_names old' old_names p ≡ Nothing
+      (p : Pair) → Within new old p → mismatch_at new new_names old old_names p ≡ None
+      → mismatch_at new' new_names old' old_names p ≡ None
   pub steps :
       (p q : Pair) (s : ℕ) → Within new old p → Step new' new_names old' old_names p s q
       → (r : ℕ) × Step new new_names old old_names p r q

@@ -25,25 +25,27 @@ use Rattle.rules.specs.computed.Reading.{reading}
 use Rattle.rules.specs.computed.Verdict.{same_pair}
 use Rattle.table.specs.declared.Table.{Table}
 use Rattle.table.specs.declared.answers.Found.{Found}
-use Rattle.table.specs.declared.answers.Verdict.{Verdict}
 use Rattle.table.specs.declared.answers.Verdict.TheVariants as the
+use Rattle.std.specs.Prelude.{Ok, Err}
+use Rattle.rules.specs.Replies.{Answer}
+use Rattle.table.specs.declared.answers.Refusal.{Refusal}
 
 -- the table of a text
 abbrev pub table : String → Table
 table s = (reading (bytes s)).table
 
 -- the replies that the promise allows for two texts
-abbrev pub Allowed : String → String → Areas → Areas → Verdict → Type 0
+abbrev pub Allowed : String → String → Areas → Areas → Answer → Type 0
 Allowed new old before after v = Replaces (table new) (bytes new) (table old) (bytes old) before after v
 
 -- One that refuses everything: demand 2. R and R are well formed, and the areas have the published sizes.
-pub refusing_everything : (n p : ℕ) (after : Areas) → Allowed R R (areas_for (table R) (table R)) after (the.Refused n p) → ⊥
+pub refusing_everything : (r : Refusal) (after : Areas) → Allowed R R (areas_for (table R) (table R)) after (Err r) → ⊥
 unfolding computes
-refusing_everything n p after (new_not_formed a e) = false≢true (sym a)
-refusing_everything n p after (old_not_formed a b e) = false≢true (sym b)
-refusing_everything n p after (marks_short a b m e) = omega arith
-refusing_everything n p after (path_short a b m l e) = omega arith
-refusing_everything n p after (scratch_short a b m l s e) = omega arith
+refusing_everything r after (new_not_formed a e) = false≢true (sym a)
+refusing_everything r after (old_not_formed a b e) = false≢true (sym b)
+refusing_everything r after (marks_short a b m e) = omega arith
+refusing_everything r after (path_short a b m l e) = omega arith
+refusing_everything r after (scratch_short a b m l s e) = omega arith
 
 -- One that says yes throughout: demands 2 and 3. From the starts of Q and P step 0 leads to a mismatch.
 offered : Pair
@@ -57,13 +59,13 @@ offered_wrong : IsMismatch (table Q) (bytes Q) (table P) (bytes P) offered
 unfolding computes offered
 offered_wrong e = let z : ◌≡◌ {A = ℕ} 0 1 = cc in omega arith
 
-pub yes_throughout : (c : ℕ) (before after : Areas) → Allowed Q P before after (the.Yes c) → ⊥
+pub yes_throughout : (c : ℕ) (before after : Areas) → Allowed Q P before after (Ok (the.Yes c)) → ⊥
 yes_throughout c before after r =
     offered_wrong (closed_no_mismatch (yes_means r).1.smallest.closed (0 ∷ []) offered into_offered)
 
 -- One that writes no marks or path: demands 2 and 3. After a yes the starts are marked; after N's no against R the path cannot stand as
 -- it was found, since from the starts there is no step 7.
-pub no_marks : (c : ℕ) (after : Areas) → after.marks ≡ (areas_for (table R) (table R)).marks → Allowed R R (areas_for (table R) (table R)) after (the.Yes c) → ⊥
+pub no_marks : (c : ℕ) (after : Areas) → after.marks ≡ (areas_for (table R) (table R)).marks → Allowed R R (areas_for (table R) (table R)) after (Ok (the.Yes c)) → ⊥
 unfolding computes
 no_marks c after e r =
     let Y = (yes_means r).1 in
@@ -77,7 +79,7 @@ starts_fit : IsMismatch (table N) (bytes N) (table R) (bytes R) (starts (table N
 unfolding computes
 starts_fit w = w refl
 
-pub no_path : (f : Found) (after : Areas) → after.path ≡ found_areas.path → Allowed N R found_areas after (the.No f) → ⊥
+pub no_path : (f : Found) (after : Areas) → after.path ≡ found_areas.path → Allowed N R found_areas after (Ok (the.No f)) → ⊥
 unfolding computes
 no_path f after e r = by_run X.run refl
   where
@@ -94,7 +96,7 @@ no_path f after e r = by_run X.run refl
 -- One whose first step is real and whose later steps are filler: demand 3. N against R goes 0, 4; its step 0 leads to a message whose only
 -- item is a sort, so that there is no step 0 from there.
 pub filler_steps :
-    (f : Found) (after : Areas) → f.steps ≡ 2 → after.path ≡ 0 ∷ 0 ∷ replicate 48 7 → Allowed N R found_areas after (the.No f) → ⊥
+    (f : Found) (after : Areas) → f.steps ≡ 2 → after.path ≡ 0 ∷ 0 ∷ replicate 48 7 → Allowed N R found_areas after (Ok (the.No f)) → ⊥
 unfolding computes
 filler_steps f after e q r =
     let X = (no_means r).1 in
@@ -125,7 +127,7 @@ two [] h = absurd (omega arith)
 two (a ∷ []) h = absurd (omega arith)
 two (a ∷ b ∷ l) h = refl
 
-pub invented_mark_count : (c : ℕ) (before after : Areas) → Allowed E E before after (the.Yes c) → c ≡ 1
+pub invented_mark_count : (c : ℕ) (before after : Areas) → Allowed E E before after (Ok (the.Yes c)) → c ≡ 1
 unfolding computes only_starts
 invented_mark_count c before after r =
     let F = (yes_means r).0 in
@@ -143,7 +145,7 @@ invented_mark_count c before after r =
     unmarked true h = absurd (false≢true (h refl))
     unmarked false h = refl
 
-pub invented_step_count : (f : Found) (before after : Areas) → Allowed Q P before after (the.No f) → f.steps ≡ 1
+pub invented_step_count : (f : Found) (before after : Areas) → Allowed Q P before after (Ok (the.No f)) → f.steps ≡ 1
 unfolding computes
 invented_step_count f before after r =
     ap (λ (g : Found). g.steps) X.returned ∙ by_length X.run refl

@@ -8,7 +8,8 @@ use mathlib.Core.Path.{◌≡◌, refl, sym, ◌∙◌}
 use Prim.Native.Nat.{ℕ, ◌≤◌}
 use native.Mathlib.Omega.{arith}
 use lib.ListN.{length, replicate, length-replicate}
-use Rattle.rules.specs.Line.{Question, against, Answers, Prints, first_refused, second_refused, yes, no, first_text, second_text}
+use Rattle.rules.specs.Line.{against, Answers, Prints, first_refused, second_refused, yes, no, first_text, second_text}
+use Rattle.table.specs.declared.answers.Question.{Question}
 use Rattle.rules.specs.Replies.{Reads, accepts, refuses, Areas, NoRefusal, Replaces, new_not_formed, old_not_formed, marks_short, path_short, scratch_short, made, pair_count, scratch_size}
 use Rattle.rules.specs.computed.Line.{areas_for, verdict_line, second_line, first_line, printed}
 use Rattle.rules.specs.computed.Reading.{reading}
@@ -21,11 +22,16 @@ use Rattle.table.specs.declared.Table.{Table}
 use Rattle.table.specs.declared.answers.Made.{Made}
 use Rattle.table.specs.declared.answers.Verdict.{Verdict}
 use Rattle.table.specs.declared.answers.Verdict.TheVariants as the
+use Rattle.std.specs.Prelude.{Ok, Err}
+use Rattle.rules.specs.Replies.{Answer}
+use Rattle.rules.specs.computed.Verdict.{Reply}
+use Rattle.rules.specs.computed.Line.{reply_line}
+use Rattle.table.specs.declared.answers.Refusal.{Refusal}
 
 -- where no refusal applies, none is given
 pub never_refused :
-    {new : Table} {new_names : List ℕ} {old : Table} {old_names : List ℕ} {before after : Areas} {n p : ℕ}
-    → NoRefusal new new_names old old_names before → Replaces new new_names old old_names before after (the.Refused n p) → ⊥
+    {new : Table} {new_names : List ℕ} {old : Table} {old_names : List ℕ} {before after : Areas} {r : Refusal}
+    → NoRefusal new new_names old old_names before → Replaces new new_names old old_names before after (Err r) → ⊥
 never_refused F (new_not_formed a e) = false≢true (sym a ∙ F.new_formed)
 never_refused F (old_not_formed a b e) = false≢true (sym b ∙ F.old_formed)
 never_refused F (marks_short a b m e) = omega (arith, m, F.marks_long)
@@ -42,11 +48,23 @@ module _ (q : Question) {new_text old_text : List ℕ} {new old : Table} {before
 
   pub verdict_answers :
       NoRefusal new new_text (against q old) old_text before → (v : Verdict) (after : Areas)
-      → Replaces new new_text (against q old) old_text before after v
+      → Replaces new new_text (against q old) old_text before after (Ok v)
       → Answers q new_text old_text before after (verdict_line v after.path)
   verdict_answers F (the.Yes c) after r = yes a b r
   verdict_answers F (the.No f) after r = no a b r
-  verdict_answers F (the.Refused n p) after r = absurd (never_refused F r)
+
+  -- the line of a reply that computes
+  pub reply_answers :
+      (r : Reply) → NoRefusal new new_text (against q old) old_text before
+      → Replaces new new_text (against q old) old_text before r.areas r.answer
+      → Answers q new_text old_text before r.areas (reply_line r)
+  reply_answers r F = go r.answer
+    where
+      go :
+          (v : Answer) → Replaces new new_text (against q old) old_text before r.areas v
+          → Answers q new_text old_text before r.areas (reply_line (record { answer = v; areas = r.areas }))
+      go (Ok v) R = verdict_answers F v r.areas R
+      go (Err e) R = absurd (never_refused F R)
 
 abbrev pub no_areas : Areas
 no_areas = record { marks = []; path = []; scratch = [] }
@@ -63,7 +81,7 @@ module _ (q : Question) (new_text old_text : List ℕ) where
       let old = against q m.table in
       let zeros : (k : ℕ) → k ≤ length (replicate {A = ℕ} k 0) = λ k. omega (arith, length-replicate {A = ℕ} k 0) in
       let F = texts_not_refused q a (accepts w f) (zeros (pair_count new old)) (zeros (pair_count new old)) (zeros (scratch_size new old)) in
-      (areas_for new old, _, verdict_answers q a (accepts w f) F _ _ (verdict_replaces new new_text old old_text (areas_for new old)))
+      (areas_for new old, _, reply_answers q a (accepts w f) _ F (verdict_replaces new new_text old old_text (areas_for new old)))
 
   first_answers : (m : Made) → Reads new_text m → Answered (first_line q m new_text old_text)
   unfolding first_line

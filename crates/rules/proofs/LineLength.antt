@@ -8,7 +8,8 @@ use lib.ListN.{length, length-append}
 use Rattle.rules.specs.Basics.{bytes}
 use Rattle.rules.specs.Numbers.{text_most, labels_most}
 use Rattle.rules.specs.Replies.{Areas, Reads, made}
-use Rattle.rules.specs.Line.{Question, against, Answers, first_refused, second_refused, yes, no, field, fields, line, yes_line, no_line, refused_line}
+use Rattle.rules.specs.Line.{against, Answers, first_refused, second_refused, yes, no, field, fields, line, yes_line, no_line, refused_line}
+use Rattle.table.specs.declared.answers.Question.{Question}
 use Rattle.rules.specs.Writing.{Counts, line_size}
 use Rattle.rules.proofs.Digits.{two_digits, three_digits, four_digits, five_digits, field_few}
 use Rattle.rules.proofs.Formed.{formed}
@@ -21,6 +22,7 @@ use Rattle.rules.proofs.SmallNumbers.{refusal_small, count_small, SmallFound, fo
 use Rattle.table.specs.declared.Table.{Table}
 use Rattle.table.specs.declared.answers.Found.{Found}
 use Rattle.table.specs.declared.answers.Made.{Made}
+use Rattle.rules.specs.Refusals.{number}
 
 -- a word, its fields and the line feed
 pub line_parts : (w ks : List ℕ) → length (line w ks) ≡ length w + length (fields ks) + 1
@@ -92,10 +94,10 @@ module _ {q : Question} {new_text old_text : List ℕ} {n m : ℕ} (C : Counts q
   counts_old r = C.old_count ∙ ap (λ (a : Made). (against q a.table).count) (one_reading C.second_read r)
 
   pub line_length : {before after : Areas} {l : List ℕ} → Answers q new_text old_text before after l → length l ≤ line_size n m
-  line_length (first_refused {n = k} {p} r e) =
-      let s = refusal_small r in omega (arith, refused-length k 1 p s.0 (omega arith) s.1)
-  line_length (second_refused {n = k} {p} a r e) =
-      let s = refusal_small r in omega (arith, refused-length k 2 p s.0 (omega arith) s.1)
+  line_length (first_refused {k} {p} r e) =
+      let s = refusal_small r in omega (arith, refused-length (number k) 1 p s.0 (omega arith) s.1)
+  line_length (second_refused {k} {p} a r e) =
+      let s = refusal_small r in omega (arith, refused-length (number k) 2 p s.0 (omega arith) s.1)
   line_length (yes {count} a b R) =
       let (F, Y) = yes_means R in
       let few = pairs_few (formed F.new_formed).few_nodes (formed F.old_formed).few_nodes in

@@ -17,7 +17,8 @@ use Rattle.rules.proofs.Smallest.{closed_no_mismatch}
 use Rattle.rules.specs.Dual.{dual, dual_count, hands_over}
 use Rattle.rules.specs.Formed.{well_formed}
 use Rattle.rules.specs.Numbers.{table_nodes_most}
-use Rattle.rules.specs.Refusals.{dual_too_large, not_well_formed}
+use Rattle.std.specs.Prelude.{Ok}
+use Rattle.table.specs.declared.answers.RefusalKind.TheVariants as kind
 use Rattle.rules.specs.Replace.{MayReplace, Compatible}
 use Rattle.rules.specs.Replies.{Areas, AsksCompatible, then_verdict, Replaces, dual_reply, made, refused}
 use Rattle.table.specs.declared.Table.{Table}
@@ -26,22 +27,22 @@ use Rattle.table.specs.declared.answers.Made.{Made}
 use Rattle.table.specs.declared.answers.Verdict.TheVariants as the
 
 module _ {new : Table} {new_names : List ℕ} {old : Table} {old_names : List ℕ} {before after : Areas} where
-  pub yes-may_replace : {c : ℕ} → Replaces new new_names old old_names before after (the.Yes c) → MayReplace new new_names old old_names
+  pub yes-may_replace : {c : ℕ} → Replaces new new_names old old_names before after (Ok (the.Yes c)) → MayReplace new new_names old old_names
   yes-may_replace r = let Y = (yes_means r).1 in record { set = Y.set; closed = Y.smallest.closed }
 
   pub no_may_not_replace :
-      {f : Found} → Replaces new new_names old old_names before after (the.No f) → MayReplace new new_names old old_names → ⊥
+      {f : Found} → Replaces new new_names old old_names before after (Ok (the.No f)) → MayReplace new new_names old old_names → ⊥
   no_may_not_replace r m = let X = (no_means r).1 in X.wrong (closed_no_mismatch m.closed X.run X.end X.runs)
 
 -- What the dual is refused for, and what it is given for: each exactly then.
 module _ (t : Table) (names : List ℕ) where
-  pub dual_not_formed : well_formed t names ≡ false → dual_reply t names ≡ refused not_well_formed 1
+  pub dual_not_formed : well_formed t names ≡ false → dual_reply t names ≡ refused kind.NotWellFormed 1
   unfolding dual_reply
   dual_not_formed f = rw (dual_reply, f) refl
 
   pub dual_large :
       well_formed t names ≡ true → table_nodes_most < dual_count (hands_over t) t.count
-      → dual_reply t names ≡ refused dual_too_large t.count
+      → dual_reply t names ≡ refused kind.DualTooLarge t.count
   unfolding dual_reply
   dual_large f l = rw (dual_reply, f, lt-ltb table_nodes_most (dual_count (hands_over t) t.count) l) refl
 
@@ -59,7 +60,7 @@ module _ (t : Table) (names : List ℕ) where
 
   pub dual_items_many :
       well_formed t names ≡ true → hands_over t ≡ true → table_nodes_most < t.count + t.count
-      → dual_reply t names ≡ refused dual_too_large t.count
+      → dual_reply t names ≡ refused kind.DualTooLarge t.count
   dual_items_many f e l = dual_large f (rw e l)
 
 -- a dual that is handed back: no refusal applied, and it is the dual
@@ -88,12 +89,12 @@ given_formed t names u e =
 
 module _ {new : Table} {new_names : List ℕ} {other : Table} {other_names : List ℕ} {before after : Areas} where
   pub yes_compatible :
-      {m : Made} {c : ℕ} → AsksCompatible new new_names other other_names before after m (some (the.Yes c)) → Compatible new new_names other other_names
+      {m : Made} {c : ℕ} → AsksCompatible new new_names other other_names before after m (some (Ok (the.Yes c))) → Compatible new new_names other other_names
   yes_compatible (then_verdict {t} e r) =
       subst (λ (d : Table). MayReplace new new_names d other_names) (made-dual other other_names t e) (yes-may_replace r)
 
   pub no_not_compatible :
-      {m : Made} {f : Found} → AsksCompatible new new_names other other_names before after m (some (the.No f))
+      {m : Made} {f : Found} → AsksCompatible new new_names other other_names before after m (some (Ok (the.No f)))
       → Compatible new new_names other other_names → ⊥
   no_not_compatible (then_verdict {t} e r) k =
       no_may_not_replace r (subst (λ (d : Table). MayReplace new new_names d other_names) (sym (made-dual other other_names t e)) k)

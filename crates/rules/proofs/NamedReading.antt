@@ -23,6 +23,9 @@ use Rattle.rules.proofs.Refusals.{token_fault_declared, token_fault-lowest}
 use Rattle.rules.proofs.Replies.{made_not_refused}
 use Rattle.table.specs.declared.Table.{Table}
 use Rattle.table.specs.declared.answers.Made.{Made}
+use Rattle.rules.specs.Refusals.{number}
+use Rattle.table.specs.declared.answers.RefusalKind.{RefusalKind}
+use Rattle.table.specs.declared.answers.RefusalKind.TheVariants as kind
 
 -- the refusals 8 and 9 of a text of the tree x
 pub data OfNames (x : Text) : ℕ → ℕ → Type 0 where
@@ -61,10 +64,10 @@ module _ {s : List ℕ} {x : Text} (short : length s ≤ text_most) (w : Writes 
   pub reads_undefined :
       (before after : List Token) (t : Token) → used_names x ≡ before ++ (t ∷ after)
       → ((u : Token) → OneOf u before → definition_leads x 0 u.spelled ≡ to_nothing → ⊥)
-      → definition_leads x 0 t.spelled ≡ to_nothing → Reads s (refused never_defined t.at)
+      → definition_leads x 0 t.spelled ≡ to_nothing → Reads s (refused kind.NeverDefined t.at)
   unfolding group
   reads_undefined before after t split none_before e =
-      refuses (undefined_name w (record { before = before; after = after; split = split }) e) (λ m q f g. none_first (of_names f) g)
+      refuses {k = kind.NeverDefined} (undefined_name w (record { before = before; after = after; split = split }) e) (λ m q f g. none_first (of_names f) g)
     where
       none_first : {m q : ℕ} → OfNames x m q → GoesFirst m q never_defined t.at → ⊥
       none_first (undefined {t = u} o d) g =
@@ -80,10 +83,10 @@ module _ {s : List ℕ} {x : Text} (short : length s ≤ text_most) (w : Writes 
     pub reads_round :
         (before after : List Token) (t : Token) → defined_names x ≡ before ++ (t ∷ after)
         → ((u : Token) → OneOf u before → (k : ℕ) × (n : ℕ) × (follow x n (to_name u.spelled) ≡ some k))
-        → follow x (definition_count x) (to_name t.spelled) ≡ none → Reads s (refused leads_round t.at)
+        → follow x (definition_count x) (to_name t.spelled) ≡ none → Reads s (refused kind.LeadsRound t.at)
     unfolding group
     reads_round before after t split lead_before e =
-        refuses (round_name w (record { before = before; after = after; split = split }) (never_leads x (to_name t.spelled) e))
+        refuses {k = kind.LeadsRound} (round_name w (record { before = before; after = after; split = split }) (never_leads x (to_name t.spelled) e))
         (λ m q f g. none_first (of_names f) g)
       where
         none_first : {m q : ℕ} → OfNames x m q → GoesFirst m q leads_round t.at → ⊥
@@ -122,11 +125,11 @@ module _ {s : List ℕ} (none_applies : (n p : ℕ) → Fault s n p → ⊥) whe
     rw (seen-append unseen done (t ∷ [])) at (clear_from (done ++ (t ∷ [])) rest (e ∙ sym (append_assoc done (t ∷ []) rest))),
   )
     where
-      go : (o : Option ℕ) → token_fault (seen done) t ≡ o → o ≡ none
+      go : (o : Option RefusalKind) → token_fault (seen done) t ≡ o → o ≡ none
       go none f = refl
       go (some n) f =
           absurd
-          (none_applies n t.at (at_token {done = done} (record { rest = rest; split = e }) (token_fault_declared (seen done) t n f)))
+          (none_applies (number n) t.at (at_token {done = done} (record { rest = rest; split = e }) (token_fault_declared (seen done) t n f)))
 
   short_text : length s ≤ text_most
   short_text = let h : text_most < length s → ⊥ = λ l. none_applies text_too_long 0 (long_text l) in omega arith

@@ -9,11 +9,11 @@ use Rattle.rules.proofs.Replies.{made_not_refused}
 use Rattle.rules.specs.Replies.{Areas, AsksCompatible, no_dual, then_verdict}
 use Rattle.table.specs.declared.Table.{Table}
 use Rattle.table.specs.declared.answers.Made.{Made}
-use Rattle.table.specs.declared.answers.Verdict.{Verdict}
+use Rattle.rules.specs.Replies.{Answer}
 
 module _ (new : Table) (new_names : List ℕ) (other : Table) (other_names : List ℕ) (before after after' : Areas) where
   pub one_compatible :
-      {m n : Made} {v w : Option Verdict} → AsksCompatible new new_names other other_names before after m v
+      {m n : Made} {v w : Option Answer} → AsksCompatible new new_names other other_names before after m v
       → AsksCompatible new new_names other other_names before after' n w → (after ≡ after') × (m ≡ n) × (v ≡ w)
   one_compatible (no_dual a q) (no_dual b r) = (q ∙ sym r, sym a ∙ b, refl)
   one_compatible (no_dual a q) (then_verdict b X) = absurd (made_not_refused (sym b ∙ a))

@@ -6,18 +6,23 @@ use Prim.Native.Nat.{ℕ}
 use Rattle.rules.proofs.OneReading.{one_reading}
 use Rattle.rules.proofs.OneVerdict.{one_count, one_run, not_both}
 use Rattle.rules.proofs.Replies.{made_not_refused, refused_one, yes_means, no_means, steps_run}
-use Rattle.rules.specs.Line.{Question, Answers, Prints, first_refused, second_refused, yes, no, no_line, yes_line, refused_line}
+use Rattle.rules.specs.Line.{Answers, Prints, first_refused, second_refused, yes, no, no_line, yes_line, refused_line}
+use Rattle.table.specs.declared.answers.Question.{Question}
 use Rattle.rules.specs.Replies.{Areas, Reads, made, refused}
 use Rattle.table.specs.declared.Table.{Table}
 use Rattle.table.specs.declared.answers.Made.{Made}
+use Rattle.rules.specs.Refusals.{number}
+use Rattle.table.specs.declared.answers.RefusalKind.{RefusalKind}
 
 pub same_table : {s : List ℕ} {t u : Table} → Reads s (made t) → Reads s (made u) → t ≡ u
 same_table a b = ap (λ (m : Made). m.table) (one_reading a b)
 
-pub not_refused : {s : List ℕ} {t : Table} {n p : ℕ} → Reads s (made t) → Reads s (refused n p) → ⊥
+pub not_refused : {s : List ℕ} {t : Table} {k : RefusalKind} {p : ℕ} → Reads s (made t) → Reads s (refused k p) → ⊥
 not_refused a b = made_not_refused (one_reading a b)
 
-same_refusal : {s : List ℕ} {n p m q : ℕ} (which : ℕ) → Reads s (refused n p) → Reads s (refused m q) → refused_line n which p ≡ refused_line m which q
+same_refusal :
+    {s : List ℕ} {j k : RefusalKind} {p q : ℕ} (which : ℕ) → Reads s (refused j p) → Reads s (refused k q)
+    → refused_line (number j) which p ≡ refused_line (number k) which q
 same_refusal which a b = let e = refused_one (one_reading a b) in rw (e.0, e.1)
 
 module _ {q : Question} {new_text old_text : List ℕ} where

@@ -16,6 +16,7 @@ use Rattle.rules.specs.Refusals.{Begins, a_definition, a_label, an_item, nothing
 use Rattle.rules.specs.computed.Reading.{token_fault, lowest, one_more, again, place}
 use Rattle.rules.proofs.Machine.{Expect, Stack, step, stuck}
 use Rattle.rules.proofs.Reached.{Reached, Refuses, reached_stuck, reached_end}
+use Rattle.table.specs.declared.answers.RefusalKind.TheVariants as kind
 
 -- a token that cannot stand here, or the end of the text where it may not end
 pub refused_here :
@@ -72,7 +73,7 @@ module _ (t : Token) (y : Symbol) (e : symbol t ≡ y) where
   unfolding token_fault
   fault_symbol z l = rw (← e, token_fault, le-ltb word_most (length t.spelled) l) refl
 
-pub fault_long : (z : Seen) (t : Token) → word_most < length t.spelled → token_fault z t ≡ some 3
+pub fault_long : (z : Seen) (t : Token) → word_most < length t.spelled → token_fault z t ≡ some kind.WordTooLong
 unfolding token_fault
 fault_long z t l = rw (token_fault, lt-ltb word_most (length t.spelled) l) refl
 

@@ -17,13 +17,15 @@ use Rattle.rules.proofs.Runs.{leads_one}
 use Rattle.rules.proofs.Smallest.{smallest_unique, closed_no_mismatch}
 use Rattle.rules.specs.Formed.{well_formed}
 use Rattle.rules.specs.Pairs.{starts}
-use Rattle.rules.specs.Refusals.{not_well_formed, area_too_short}
 use Rattle.rules.specs.Runs.{Before}
 use Rattle.rules.specs.Replies.{Areas, NoRefusal, SaysYes, SaysNo, Replaces, new_not_formed, old_not_formed, marks_short, path_short, scratch_short, says_yes, says_no, pair_count, scratch_size, mark, count_marks}
 use Rattle.table.specs.declared.Table.{Table}
 use Rattle.table.specs.declared.answers.Found.{Found}
-use Rattle.table.specs.declared.answers.Verdict.{Verdict}
 use Rattle.table.specs.declared.answers.Verdict.TheVariants as the
+use Rattle.std.specs.Prelude.{Ok, Err}
+use Rattle.rules.specs.Replies.{Answer, refusal}
+use Rattle.table.specs.declared.answers.RefusalKind.TheVariants as kind
+use Rattle.table.specs.declared.answers.Found.{Found}
 
 module _ (new : Table) (new_names : List ℕ) (old : Table) (old_names : List ℕ) where
   module _ {before after before' after' : Areas} where
@@ -83,10 +85,10 @@ first_of true true false true s = 3
 first_of true true false false true = 4
 first_of true true false false false = 5
 
-abbrev refusal_at : ℕ → Verdict
-refusal_at zero = the.Refused not_well_formed 1
-refusal_at (suc zero) = the.Refused not_well_formed 2
-refusal_at (suc (suc k)) = the.Refused area_too_short (suc k)
+abbrev refusal_at : ℕ → Answer
+refusal_at zero = Err (refusal kind.NotWellFormed 1)
+refusal_at (suc zero) = Err (refusal kind.NotWellFormed 2)
+refusal_at (suc (suc k)) = Err (refusal kind.AreaTooShort (suc k))
 
 module _ (new : Table) (new_names : List ℕ) (old : Table) (old_names : List ℕ) (before : Areas) where
   abbrev stage : ℕ
@@ -95,20 +97,20 @@ module _ (new : Table) (new_names : List ℕ) (old : Table) (old_names : List �
       (ltb (length before.path) (pair_count new old)) (ltb (length before.scratch) (scratch_size new old))
 
   module _ (after : Areas) where
-    abbrev Says : Verdict → Type 0
-    Says (the.Yes c) = SaysYes new new_names old old_names before after c
-    Says (the.No f) = SaysNo new new_names old old_names before after f
-    Says (the.Refused n p) = ⊥
+    abbrev Says : Answer → Type 0
+    Says (Ok (the.Yes c)) = SaysYes new new_names old old_names before after c
+    Says (Ok (the.No f)) = SaysNo new new_names old old_names before after f
+    Says (Err r) = ⊥
 
     -- a reply is the first refusal, or there is none
-    data Settled (v : Verdict) : Type 0 where
+    data Settled (v : Answer) : Type 0 where
       refuses : (k : ℕ) → stage ≡ k → k < 5 → v ≡ refusal_at k → after ≡ before → Settled v
       answers : stage ≡ 5 → NoRefusal new new_names old old_names before → Says v → Settled v
 
     stage_none : NoRefusal new new_names old old_names before → stage ≡ 5
     stage_none F = rw (F.new_formed, F.old_formed, le-ltb _ _ F.marks_long, le-ltb _ _ F.path_long, le-ltb _ _ F.scratch_long)
 
-    settled : {v : Verdict} → Replaces new new_names old old_names before after v → Settled v
+    settled : {v : Answer} → Replaces new new_names old old_names before after v → Settled v
     settled (new_not_formed a e) = refuses 0 (rw a) (omega arith) refl e
     settled (old_not_formed a b e) = refuses 1 (rw (a, b)) (omega arith) refl e
     settled (marks_short a b m e) = refuses 2 (rw (a, b, lt-ltb _ _ m)) (omega arith) refl e
@@ -123,30 +125,30 @@ module _ (new : Table) (new_names : List ℕ) (old : Table) (old_names : List �
   areas_equal a b c = λ i. record { marks = a i; path = b i; scratch = c i }
 
   says_one :
-      (v w : Verdict) → NoRefusal new new_names old old_names before → NoRefusal new new_names old old_names before
+      (v w : Answer) → NoRefusal new new_names old old_names before → NoRefusal new new_names old old_names before
       → Says new new_names old old_names before after v → Says new new_names old old_names before after' w → (after ≡ after') × (v ≡ w)
-  says_one (the.Yes c) (the.Yes d) F F' Y Y' =
+  says_one (Ok (the.Yes c)) (Ok (the.Yes d)) F F' Y Y' =
       let o = one_count new new_names old old_names F Y F' Y' in
       let N = pair_count new old in (
         areas_equal
             (sym (take-append-drop N after.marks) ∙ (rw (o.0, Y.beyond, Y'.beyond)) ∙ take-append-drop N after'.marks)
             (Y.path ∙ sym Y'.path)
             (Y.scratch ∙ sym Y'.scratch),
-        ap the.Yes o.1,
+        ap (λ (c : ℕ). Ok (the.Yes c)) o.1,
       )
-  says_one (the.Yes c) (the.No f) F F' Y X = absurd (not_both new new_names old old_names Y X)
-  says_one (the.Yes c) (the.Refused n p) F F' Y X = absurd X
-  says_one (the.No f) (the.Yes c) F F' X Y = absurd (not_both new new_names old old_names Y X)
-  says_one (the.No f) (the.No g) F F' X X' =
+  says_one (Ok (the.Yes c)) (Ok (the.No f)) F F' Y X = absurd (not_both new new_names old old_names Y X)
+  says_one (Ok (the.Yes c)) (Err r) F F' Y X = absurd X
+  says_one (Ok (the.No f)) (Ok (the.Yes c)) F F' X Y = absurd (not_both new new_names old old_names Y X)
+  says_one (Ok (the.No f)) (Ok (the.No g)) F F' X X' =
       let o = one_run new new_names old old_names X X' in (
         areas_equal (X.marks ∙ sym X'.marks) (X.path ∙ (rw o.0) ∙ sym X'.path) (X.scratch ∙ sym X'.scratch),
-        ap the.No o.1,
+        ap (λ (f : Found). Ok (the.No f)) o.1,
       )
-  says_one (the.No f) (the.Refused n p) F F' X Y = absurd Y
-  says_one (the.Refused n p) w F F' X Y = absurd X
+  says_one (Ok (the.No f)) (Err r) F F' X Y = absurd Y
+  says_one (Err r) w F F' X Y = absurd X
 
   pub one_verdict :
-      {v w : Verdict} → Replaces new new_names old old_names before after v → Replaces new new_names old old_names before after' w
+      {v w : Answer} → Replaces new new_names old old_names before after v → Replaces new new_names old old_names before after' w
       → (after ≡ after') × (v ≡ w)
   one_verdict {v} {w} A B = by_stage (settled new new_names old old_names before after A) (settled new new_names old old_names before after' B)
     where

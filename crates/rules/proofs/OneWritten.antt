@@ -10,21 +10,23 @@ use lib.Dec.{ltb}
 use lib.ListN.{length, drop}
 use borrow.Author.Tests.{ltb-true, ltb-false, lt-ltb, le-ltb}
 use Rattle.rules.specs.Pairs.{turns_most}
-use Rattle.rules.specs.Refusals.{area_too_short}
 use Rattle.rules.specs.Replies.{Areas, Reads, pair_count, scratch_size}
 use Rattle.rules.specs.Replies as replies
-use Rattle.rules.specs.Line.{Question, against, Answers, first_refused, second_refused, yes, no}
+use Rattle.rules.specs.Line.{against, Answers, first_refused, second_refused, yes, no}
+use Rattle.table.specs.declared.answers.Question.{Question}
 use Rattle.rules.specs.Writing.{LineAreas, Lengths, lengths, line_size, Counts, AllLong, LeastShort, marks_short, path_short, scratch_short, line_short, WritesLine, refuses, writes}
 use Rattle.rules.specs.computed.Reading.{reading}
 use Rattle.rules.proofs.Agreement.{reads_reading}
-use Rattle.rules.proofs.LineAgreement.{texts_not_refused, verdict_answers}
+use Rattle.rules.proofs.LineAgreement.{texts_not_refused, reply_answers}
 use Rattle.rules.proofs.OneLine.{same_table, not_refused, one_answer}
 use Rattle.rules.proofs.OneReading.{one_reading}
 use Rattle.rules.proofs.OneVerdict.{one_verdict}
 use Rattle.rules.proofs.VerdictAgreement.{verdict_replaces}
 use Rattle.table.specs.declared.answers.Made.{Made}
-use Rattle.table.specs.declared.answers.Written.{Written}
-use Rattle.table.specs.declared.answers.Written.TheVariants.{Line, Refused}
+use Rattle.std.specs.Prelude.{Result, Ok, Err}
+use Rattle.rules.specs.Replies.{refusal}
+use Rattle.table.specs.declared.answers.Refusal.{Refusal}
+use Rattle.table.specs.declared.answers.RefusalKind.TheVariants as kind
 
 pub one_counts :
     {q : Question} {new_text old_text : List ℕ} {n m n' m' : ℕ} → Counts q new_text old_text n m → Counts q new_text old_text n' m'
@@ -87,17 +89,17 @@ one_areas (no a b c) (yes d e f) = (one_verdict _ _ _ _ _ _ _ (rw (same_table a 
 one_areas (no a b c) (no d e f) = (one_verdict _ _ _ _ _ _ _ (rw (same_table a d, same_table b e) at c) f).0
 
 pub one_written :
-    {q : Question} {new_text old_text : List ℕ} {before after after' : LineAreas} {r r' : Written}
+    {q : Question} {new_text old_text : List ℕ} {before after after' : LineAreas} {r r' : Result ℕ Refusal}
     → WritesLine q new_text old_text before after r → WritesLine q new_text old_text before after' r' → (after ≡ after') × (r ≡ r')
 one_written (refuses C S e) (refuses D T f) =
-    let c = one_counts C D in (e ∙ sym f, ap (Refused area_too_short) (one_short (rw (c.0, c.1) at S) T))
+    let c = one_counts C D in (e ∙ sym f, ap (λ (p : ℕ). Err (refusal kind.AreaTooShort p)) (one_short (rw (c.0, c.1) at S) T))
 one_written (refuses C S e) (writes D A W f) = let c = one_counts C D in absurd (not_short A (rw (c.0, c.1) at S))
 one_written (writes C A W e) (refuses D S f) = let c = one_counts C D in absurd (not_short (rw (c.0, c.1) at A) S)
 one_written {before} (writes C A W e) (writes D B X f) =
     let l = one_answer W X in
     let a = one_areas W X in
     let b = e ∙ ap (λ (k : List ℕ). k ++ drop (length k) before.line) l ∙ sym f in
-    (λ i. record { lent = a i; line = b i }, ap (λ (k : List ℕ). Line (length k)) l)
+    (λ i. record { lent = a i; line = b i }, ap (λ (k : List ℕ). Ok (length k)) l)
 
 -- Areas are long enough, or one of them is the least that is not.
 data Room (n m : ℕ) (k : Lengths) : Type 0 where
@@ -145,11 +147,11 @@ module _ (q : Question) (new_text old_text : List ℕ) (before : Areas) where
       let old = against q b.table in
       let v = replies.accepts v f in
       let w = replies.accepts w g in
-      (_, _, verdict_answers q v w (texts_not_refused q v w L.0 L.1 L.2) _ _ (verdict_replaces a.table new_text old old_text before))
+      (_, _, reply_answers q v w _ (texts_not_refused q v w L.0 L.1 L.2) (verdict_replaces a.table new_text old old_text before))
 
 pub written_exists :
     (q : Question) (new_text old_text : List ℕ) (before : LineAreas)
-    → (after : LineAreas) × (r : Written) × WritesLine q new_text old_text before after r
+    → (after : LineAreas) × (r : Result ℕ Refusal) × WritesLine q new_text old_text before after r
 written_exists q new_text old_text before = go (room n m (lengths before))
   where
     a : Made
@@ -175,7 +177,7 @@ written_exists q new_text old_text before = go (room n m (lengths before))
           old_count = refl;
         }
 
-    go : Room n m (lengths before) → (after : LineAreas) × (r : Written) × WritesLine q new_text old_text before after r
+    go : Room n m (lengths before) → (after : LineAreas) × (r : Result ℕ Refusal) × WritesLine q new_text old_text before after r
     go (too_short S) = (before, _, refuses C S refl)
     go (enough A) =
         let (after, l, w) =

@@ -12,24 +12,27 @@ use Rattle.rules.proofs.TextDual.{blank-against, against_few}
 use Rattle.rules.specs.Numbers.{text_nodes_most, table_nodes_most}
 use Rattle.rules.specs.Pairs.{turns_most}
 use Rattle.rules.specs.Replies.{Reads, accepts, refuses}
-use Rattle.rules.specs.Line.{Question, may_replace, is_compatible, against, first_text, second_text}
+use Rattle.rules.specs.Line.{against, first_text, second_text}
+use Rattle.table.specs.declared.answers.Question.{Question}
+use Rattle.table.specs.declared.answers.Question.TheVariants.{MayReplace, IsCompatible}
 use Rattle.rules.specs.Writing.{LineAreas, Counts, Lengths, lengths, AllLong, WritesLine, refuses as refuses_area, writes, PrintsInto}
 use Rattle.table.specs.declared.answers.Made.{Made}
-use Rattle.table.specs.declared.answers.Written.TheVariants.{Line, Refused}
+use Rattle.std.specs.Prelude.{Ok, Err}
+use Rattle.table.specs.declared.answers.Refusal.{Refusal}
 
 -- the most nodes that the second table can have
 abbrev pub against_most : Question → ℕ
-against_most may_replace = text_nodes_most
-against_most is_compatible = table_nodes_most
+against_most MayReplace = text_nodes_most
+against_most IsCompatible = table_nodes_most
 
 new_few : {s : List ℕ} {m : Made} → Reads s m → m.table.count ≤ text_nodes_most
 new_few (accepts w f) = read_few (accepts w f)
 new_few (refuses f g) = omega arith
 
 old_few : {s : List ℕ} {m : Made} (q : Question) → Reads s m → (against q m.table).count ≤ against_most q
-old_few may_replace r = new_few r
-old_few is_compatible (accepts w f) = against_few (accepts w f) is_compatible
-old_few is_compatible (refuses f g) = omega (arith, blank-against is_compatible)
+old_few MayReplace r = new_few r
+old_few IsCompatible (accepts w f) = against_few (accepts w f) IsCompatible
+old_few IsCompatible (refuses f g) = omega (arith, blank-against IsCompatible)
 
 -- so many nodes there are at most
 pub counts_few :
@@ -53,13 +56,13 @@ fewer_long a b L =
 module _ {q : Question} {new_text old_text : List ℕ} {before after : LineAreas} where
   -- no area is refused
   pub own_enough :
-      {n p : ℕ} → AllLong text_nodes_most (against_most q) (lengths before) → WritesLine q new_text old_text before after (Refused n p) → ⊥
+      {r : Refusal} → AllLong text_nodes_most (against_most q) (lengths before) → WritesLine q new_text old_text before after (Err r) → ⊥
   own_enough L (refuses_area C s e) =
       let few = counts_few C in
       not_short (fewer_long few.0 few.1 L) s
 
 pub printed_into :
     {q : Question} (input : List ℕ) {before after : LineAreas} {r : ℕ}
-    → WritesLine q (first_text input) (second_text input) before after (Line r) → PrintsInto q input before.line after.line r
+    → WritesLine q (first_text input) (second_text input) before after (Ok r) → PrintsInto q input before.line after.line r
 printed_into input {before} {after} (writes {l = l} C L A e) =
     record { printed = l; prints = record { before = before.lent; after = after.lent; answers = A }; long = refl; holds = e }

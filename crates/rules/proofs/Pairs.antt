@@ -1,13 +1,12 @@
 -- Laws of pairs: when two are the same, and when nothing is wrong.
 -- Assumes nothing.
+use Rattle.std.specs.Prelude.{None, Some}
 use mathlib.Core.Bool.{true, false, false≢true}
 use mathlib.Core.Path.{◌≡◌, refl, sym, ap, ◌∙◌}
 use mathlib.Mathlib.Data.Bool.Basic.{and_elim_left, and_elim_right}
 use borrow.Author.Tests.{eqb-true, eq-eqb}
-use Rattle.rules.specs.Pairs.{Pair}
+use Rattle.rules.specs.Pairs.{Wrong, Pair}
 use Rattle.rules.specs.computed.Verdict.{same_pair, fits}
-use Rattle.table.specs.declared.answers.Mismatch.{Mismatch}
-use Rattle.table.specs.declared.answers.Mismatch.TheVariants as mismatch
 
 pub same_pair_true : (p q : Pair) → same_pair p q ≡ true → p ≡ q
 same_pair_true p q e =
@@ -19,12 +18,9 @@ same_pair_true p q e =
 pub same_pair_is : (p q : Pair) → p ≡ q → same_pair p q ≡ true
 same_pair_is p q e = rw (← e, eq-eqb p.turn p.turn refl, eq-eqb p.new p.new refl, eq-eqb p.old p.old refl)
 
-pub fits_nothing : (m : Mismatch) → fits m ≡ true → m ≡ mismatch.Nothing
-fits_nothing mismatch.Nothing e = refl
-fits_nothing mismatch.Kinds e = absurd (false≢true e)
-fits_nothing mismatch.Counts e = absurd (false≢true e)
-fits_nothing (mismatch.Item i) e = absurd (false≢true e)
-fits_nothing (mismatch.Label i) e = absurd (false≢true e)
+pub fits_nothing : (m : Wrong) → fits m ≡ true → m ≡ None
+fits_nothing None e = refl
+fits_nothing (Some w) e = absurd (false≢true e)
 
-pub fits_not : (m : Mismatch) → fits m ≡ false → m ≡ mismatch.Nothing → ⊥
+pub fits_not : (m : Wrong) → fits m ≡ false → m ≡ None → ⊥
 fits_not m e d = false≢true (sym e ∙ ap fits d)

@@ -19,6 +19,8 @@ use Rattle.rules.proofs.Refusals.{group_middle, group_late, token_fault_declared
 use Rattle.rules.proofs.TokenLists.{token_place, same_place, later_place}
 use Rattle.rules.proofs.Viable.{never}
 use Rattle.rules.proofs.Unexpected.{taken_front, could_exactly, taken_one, token_numbers, unexpected_token, unexpected_end, taken_text}
+use Rattle.rules.specs.Refusals.{number}
+use Rattle.table.specs.declared.answers.RefusalKind.{RefusalKind}
 
 -- that no token is refused with 3 to 7
 abbrev pub Clear : Seen → List Token → Type 0
@@ -165,21 +167,22 @@ reached_end {s} {e} {K} short R =
     (λ m q f p l b. omega arith)
 
 -- a token that a text could have there, refused with 3 to 7
-module _ {s : List ℕ} {ts : List Token} {t : Token} {K J : Stack} {z : Seen} {n : ℕ} (R : Reached s (t ∷ ts) K z) (e : step K (symbol t) ≡ on J) (f : token_fault z t ≡ some n) where
+module _ {s : List ℕ} {ts : List Token} {t : Token} {K J : Stack} {z : Seen} {n : RefusalKind} (R : Reached s (t ∷ ts) K z) (e : step K (symbol t) ≡ on J) (f : token_fault z t ≡ some n) where
   not_unexpected : Fault s unexpected t.at → ⊥
   not_unexpected h =
       let (L, r, w) = (unexpected_token (next_stands R)).0 h in
       let y : L ≡ K = cc in
       never (rw y at w) e
 
-  token_lowest : {d : List Token} {u : Token} {m : ℕ} → Stands s d u → u.at ≡ t.at → TokenFault (seen d) u m → n ≤ m
+  token_lowest : {d : List Token} {u : Token} {m : ℕ} → Stands s d u → u.at ≡ t.at → TokenFault (seen d) u m → number n ≤ m
   token_lowest {d} {u} {m} S p g =
       let (x, y, w) = same_place s d S.rest R.done ts u t S.split R.split p in
       let (k, v, l) = token_fault-lowest z t m (rw (x, y, R.counted) at g) in
       let i : k ≡ n = cc in
+      let j : number k ≡ number n = ap number i in
       omega arith
 
-  none_lower : n ≤ name_twice → (m q : ℕ) → Fault s m q → q ≡ t.at → unexpected ≤ m → m < n → ⊥
+  none_lower : number n ≤ name_twice → (m q : ℕ) → Fault s m q → q ≡ t.at → unexpected ≤ m → m < number n → ⊥
   none_lower c m q (long_text l) p a b = omega arith
   none_lower c m q (no_text_has S x g) p a b = not_unexpected (rw p at (no_text_has S x g))
   none_lower c m q (none_may_end x g) p a b = omega (arith, token_place s R.done ts t R.split)
@@ -188,17 +191,17 @@ module _ {s : List ℕ} {ts : List Token} {t : Token} {K J : Stack} {z : Seen} {
   none_lower c m q (round_name w u d) p a b = omega arith
 
 pub reached_fault :
-    {s : List ℕ} {ts : List Token} {t : Token} {K J : Stack} {z : Seen} {n : ℕ} → length s ≤ text_most → Reached s (t ∷ ts) K z
-    → step K (symbol t) ≡ on J → token_fault z t ≡ some n → Refuses s n t.at
+    {s : List ℕ} {ts : List Token} {t : Token} {K J : Stack} {z : Seen} {n : RefusalKind} → length s ≤ text_most → Reached s (t ∷ ts) K z
+    → step K (symbol t) ≡ on J → token_fault z t ≡ some n → Refuses s (number n) t.at
 reached_fault {t} {z} {n} short R e f =
     let g = token_fault_declared z t n f in
     let (a, b) = token_numbers g in
-    refused_here R short n (omega arith) b (at_token (next_stands R) (rw R.counted g)) (none_lower R e f b)
+    refused_here R short (number n) (omega arith) b (at_token (next_stands R) (rw R.counted g)) (none_lower R e f b)
 
 -- the end of the text where nothing is expected
 pub reached_text : {s : List ℕ} {z : Seen} → Reached s [] [] z → ((x : Text) × Writes s x) × Clear unseen (tokens s)
 reached_text {s} R = (taken_text s (rw (all_done R) at R.ran), rw (all_done R) at R.clear)
 
 -- a reply to a text so refused
-pub refuses_reads : {s : List ℕ} {n p : ℕ} → Refuses s n p → Reads s (refused n p)
+pub refuses_reads : {s : List ℕ} {k : RefusalKind} {p : ℕ} → Refuses s (number k) p → Reads s (refused k p)
 refuses_reads r = refuses r.applies r.first

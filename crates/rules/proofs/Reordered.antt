@@ -1,6 +1,7 @@
 -- Reordering the labels of choices turns no yes into a no, and no no into a yes: labels are found by how they are spelled.
 -- A reordered table is formed as well; at each pair of nodes as much fits, and for each step one leads to the same pair (Following).
 -- Assumes nothing.
+use Rattle.std.specs.Prelude.{None}
 use mathlib.Core.Bool.{Bool, true, false, false≢true}
 use mathlib.Core.List.{List}
 use mathlib.Core.Path.{◌≡◌, refl, sym, ap, ap₂, ◌∙◌}
@@ -31,8 +32,9 @@ use Rattle.table.specs.declared.Node.{Node}
 use Rattle.table.specs.declared.Table.{Table}
 use Rattle.table.specs.declared.answers.Found.{Found}
 use Rattle.table.specs.declared.answers.Mismatch.TheVariants as mismatch
-use Rattle.table.specs.declared.answers.Verdict.{Verdict}
 use Rattle.table.specs.declared.answers.Verdict.TheVariants as the
+use Rattle.std.specs.Prelude.{Ok}
+use Rattle.rules.specs.Replies.{Answer}
 
 -- nodes that say the same, but for the order of their labels: each label of the one is a label of the other
 pub record ReorderedNode (x y : Node) : Type 0 where
@@ -159,7 +161,7 @@ well_formed_reordered names R =
 -- the other way of `none_lacking`
 nothing_lacking :
     (x : Node) (xs : List ℕ) (y : Node) (ys : List ℕ) → ((i : ℕ) → i < label_count x → position (spelling_at x xs i) y ys < label_count y)
-    → label_lacking x xs y ys ≡ mismatch.Nothing
+    → label_lacking x xs y ys ≡ None
 unfolding label_lacking lacks
 nothing_lacking x xs y ys h =
     let i = first (label_count x) (lacks x xs y ys) in
@@ -167,7 +169,7 @@ nothing_lacking x xs y ys h =
     ap (λ (b : Bool). unless b (mismatch.Label i)) (le-leb (label_count x) i (omega arith))
 
 -- x and x' choose, y and y' have what is chosen
-module _ {x x' y y' : Node} (xs ys : List ℕ) (S : ReorderedNode x x') (T : ReorderedNode y y') (full : label_lacking x xs y ys ≡ mismatch.Nothing) where
+module _ {x x' y y' : Node} (xs ys : List ℕ) (S : ReorderedNode x x') (T : ReorderedNode y y') (full : label_lacking x xs y ys ≡ None) where
   still_there : (i : ℕ) → i < label_count x' → position (spelling_at x' xs i) y' ys < label_count y'
   still_there i l =
       let (k, m, e) = S.here i l in
@@ -175,7 +177,7 @@ module _ {x x' y y' : Node} (xs ys : List ℕ) (S : ReorderedNode x x') (T : Reo
       position_below (spelling_at x' xs i) y' ys (T.there _ p).0 (T.there _ p).1
       (ap (spelling xs) (sym e) ∙ position_spells (spelling_at x xs k) y ys p ∙ there_spelled ys T _ p)
 
-  still_full : label_lacking x' xs y' ys ≡ mismatch.Nothing
+  still_full : label_lacking x' xs y' ys ≡ None
   still_full = nothing_lacking x' xs y' ys still_there
 
   choice_step_reordered :
@@ -208,15 +210,15 @@ module _ {x x' y y' : Node} (xs ys : List ℕ) (S : ReorderedNode x x') (T : Reo
                 ∙ sym (leads x' xs y' ys s l),
           )
 
-module _ {x x' y y' : Node} (xs ys : List ℕ) (S : ReorderedNode x x') (T : ReorderedNode y y') (e : mismatch_of x xs y ys ≡ mismatch.Nothing) where
-  fits_reordered : mismatch_of x' xs y' ys ≡ mismatch.Nothing
+module _ {x x' y y' : Node} (xs ys : List ℕ) (S : ReorderedNode x x') (T : ReorderedNode y y') (e : mismatch_of x xs y ys ≡ None) where
+  fits_reordered : mismatch_of x' xs y' ys ≡ None
   fits_reordered =
       let f = (no_mismatch x xs y ys e).1 in
       sym (mismatch_but_labels (but_labels S) (but_labels T) xs ys (f ∙ sym (go x.kind f))) ∙ e
     where
       go :
-          (k : Kind) → by_chooser k (label_lacking x xs y ys) (label_lacking y ys x xs) ≡ mismatch.Nothing
-          → by_chooser k (label_lacking x' xs y' ys) (label_lacking y' ys x' xs) ≡ mismatch.Nothing
+          (k : Kind) → by_chooser k (label_lacking x xs y ys) (label_lacking y ys x xs) ≡ None
+          → by_chooser k (label_lacking x' xs y' ys) (label_lacking y' ys x' xs) ≡ None
       go End d = still_full ys xs T S d
       go Receive d = still_full ys xs T S d
       go Send d = still_full ys xs T S d
@@ -232,7 +234,7 @@ module _ {x x' y y' : Node} (xs ys : List ℕ) (S : ReorderedNode x x') (T : Reo
       (r, q ∙ ap (λ (k : Kind). step_by k x' xs y' ys s) S.kind)
     where
       go :
-          item_count x ≡ item_count y → (k : Kind) → by_chooser k (label_lacking x xs y ys) (label_lacking y ys x xs) ≡ mismatch.Nothing
+          item_count x ≡ item_count y → (k : Kind) → by_chooser k (label_lacking x xs y ys) (label_lacking y ys x xs) ≡ None
           → (r : ℕ) × (step_by k x xs y ys r ≡ step_by k x' xs y' ys s)
       go c End d = (s, refl)
       go c Receive d = (s, message_step_same (but_labels S) (but_labels T) c false s)
@@ -252,13 +254,13 @@ module _ {new new' : Table} (new_names : List ℕ) {old old' : Table} (old_names
         (right_in p.turn (node_at new' p.new) (node_at old' p.old))
     right_reordered = right_both ReorderedNode (S.each p.new w.new_below) (T.each p.old w.old_below) p.turn
 
-    pair_fits : mismatch_at new new_names old old_names p ≡ mismatch.Nothing → mismatch_at new' new_names old' old_names p ≡ mismatch.Nothing
+    pair_fits : mismatch_at new new_names old old_names p ≡ None → mismatch_at new' new_names old' old_names p ≡ None
     unfolding mismatch_at
     pair_fits e =
         fits_reordered (left_in p.turn new_names old_names) (right_in p.turn new_names old_names) left_reordered right_reordered e
 
     pair_steps :
-        WellFormed new new_names → WellFormed old old_names → mismatch_at new new_names old old_names p ≡ mismatch.Nothing → (q : Pair)
+        WellFormed new new_names → WellFormed old old_names → mismatch_at new new_names old old_names p ≡ None → (q : Pair)
         (s : ℕ) → Step new' new_names old' old_names p s q → (r : ℕ) × Step new new_names old old_names p r q
     unfolding mismatch_at step_at
     pair_steps f g e q s st =
@@ -291,10 +293,10 @@ module _ {new new' : Table} {new_names : List ℕ} {old old' : Table} {old_names
   reordered_may_replace a b m = may_replace_follows (reordered_follows (formed a) (formed b)) (formed a) (formed b) m
 
 -- where no refusal applies, a reply is a yes or a no
-module _ {new : Table} {new_names : List ℕ} {old : Table} {old_names : List ℕ} {before after : Areas} (N : NoRefusal new new_names old old_names before) (P : Verdict → Type 0) where
+module _ {new : Table} {new_names : List ℕ} {old : Table} {old_names : List ℕ} {before after : Areas} (N : NoRefusal new new_names old old_names before) (P : Answer → Type 0) where
   by_answer :
-      {v : Verdict} → ((c : ℕ) → SaysYes new new_names old old_names before after c → P (the.Yes c))
-      → ((f : Found) → SaysNo new new_names old old_names before after f → P (the.No f)) → Replaces new new_names old old_names before after v
+      {v : Answer} → ((c : ℕ) → SaysYes new new_names old old_names before after c → P (Ok (the.Yes c)))
+      → ((f : Found) → SaysNo new new_names old old_names before after f → P (Ok (the.No f))) → Replaces new new_names old old_names before after v
       → P v
   by_answer y n (new_not_formed a e) = absurd (false≢true (sym a ∙ N.new_formed))
   by_answer y n (old_not_formed a b e) = absurd (false≢true (sym b ∙ N.old_formed))
@@ -305,35 +307,35 @@ module _ {new : Table} {new_names : List ℕ} {old : Table} {old_names : List �
   by_answer y n (says_no {found = f} M X) = n f X
 
 module _ {new new' : Table} {new_names : List ℕ} {old old' : Table} {old_names : List ℕ} (S : ReorderedTable new new') (T : ReorderedTable old old') where
-  module _ {before after before' after' : Areas} {v : Verdict} where
+  module _ {before after before' after' : Areas} {v : Answer} where
     -- a yes stays a yes, with the same count and the same marks
     pub reordered_yes :
-        {c : ℕ} → Replaces new new_names old old_names before after (the.Yes c) → NoRefusal new' new_names old' old_names before'
+        {c : ℕ} → Replaces new new_names old old_names before after (Ok (the.Yes c)) → NoRefusal new' new_names old' old_names before'
         → Replaces new' new_names old' old_names before' after' v
-        → (v ≡ the.Yes c) × (take (pair_count new old) after.marks ≡ take (pair_count new old) after'.marks)
+        → (v ≡ Ok (the.Yes c)) × (take (pair_count new old) after.marks ≡ take (pair_count new old) after'.marks)
     reordered_yes {c} R N' R' = by_answer N' Same stays (λ f X. absurd (no_may_not_replace (says_no N' X) may)) R'
       where
-        Same : Verdict → Type 0
-        Same w = (w ≡ the.Yes c) × (take (pair_count new old) after.marks ≡ take (pair_count new old) after'.marks)
+        Same : Answer → Type 0
+        Same w = (w ≡ Ok (the.Yes c)) × (take (pair_count new old) after.marks ≡ take (pair_count new old) after'.marks)
 
         may : MayReplace new' new_names old' old_names
         may = reordered_may_replace S T (yes_means R).0.new_formed (yes_means R).0.old_formed (yes-may_replace R)
 
-        stays : (d : ℕ) → SaysYes new' new_names old' old_names before' after' d → Same (the.Yes d)
+        stays : (d : ℕ) → SaysYes new' new_names old' old_names before' after' d → Same (Ok (the.Yes d))
         stays d Y' =
             let (N, Y) = yes_means R in
             let F = reordered_follows S T (formed N.new_formed) (formed N.old_formed) in
             let M = no_refusal_follows F N'.new_formed N'.old_formed N in
             let G = reordered_follows (reordered_sym S) (reordered_sym T) (formed N'.new_formed) (formed N'.old_formed) in
             let (e, o) = one_count new' new_names old' old_names M (yes_follows F G N M Y) N' Y' in
-            (ap the.Yes (sym o), rw (S.count, T.count) e)
+            (ap (λ (n : ℕ). Ok (the.Yes n)) (sym o), rw (S.count, T.count) e)
 
     -- a no stays a no
     pub reordered_no :
-        {f : Found} → Replaces new new_names old old_names before after (the.No f) → NoRefusal new' new_names old' old_names before'
-        → Replaces new' new_names old' old_names before' after' v → (g : Found) × (v ≡ the.No g)
+        {f : Found} → Replaces new new_names old old_names before after (Ok (the.No f)) → NoRefusal new' new_names old' old_names before'
+        → Replaces new' new_names old' old_names before' after' v → (g : Found) × (v ≡ Ok (the.No g))
     reordered_no R N' R' =
-        by_answer N' (λ w. (g : Found) × (w ≡ the.No g))
+        by_answer N' (λ w. (g : Found) × (w ≡ Ok (the.No g)))
         (λ c Y.
         absurd
         (no_may_not_replace R

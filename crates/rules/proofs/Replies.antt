@@ -3,36 +3,37 @@
 use mathlib.Core.List.{List}
 use mathlib.Core.Path.{◌≡◌, ap}
 use Prim.Native.Nat.{ℕ}
-use native.Mathlib.Omega.{arith}
 use lib.ListN.{length, take, drop}
 use lib.Seq.{take-append_seam}
 use Rattle.rules.specs.Replies.{Areas, NoRefusal, SaysYes, SaysNo, Replaces, says_yes, says_no, made, refused}
 use Rattle.table.specs.declared.Table.{Table}
-use Rattle.table.specs.declared.answers.Answer.TheVariants.{Accepted, Refused}
+use Rattle.std.specs.Prelude.{Result, Ok, Err, ⊤}
+use Rattle.table.specs.declared.answers.RefusalKind.{RefusalKind}
+use Rattle.table.specs.declared.answers.Refusal.{Refusal}
 use Rattle.table.specs.declared.answers.Found.{Found}
 use Rattle.table.specs.declared.answers.Made.{Made}
 use Rattle.table.specs.declared.answers.Verdict.TheVariants as the
 
-pub made_not_refused : {t : Table} {n p : ℕ} → made t ≡ refused n p → ⊥
-made_not_refused {t} {n} {p} e = apart (ap (λ (m : Made). m.answer) e)
+pub made_not_refused : {t : Table} {k : RefusalKind} {p : ℕ} → made t ≡ refused k p → ⊥
+made_not_refused {t} {k} {p} e = apart (ap (λ (m : Made). m.answer) e)
   where
-    apart : Accepted ≡ Refused n p → ⊥
-    apart q = let z : ◌≡◌ {A = ℕ} 0 1 = cc in omega arith
+    apart : {a : ⊤} {r : Refusal} → ◌≡◌ {A = Result ⊤ Refusal} (Ok a) (Err r) → ⊥
+    apart q = absurd cc
 
-pub refused_one : {n p m q : ℕ} → refused n p ≡ refused m q → (n ≡ m) × (p ≡ q)
-refused_one {n} {p} {m} {q} e = parts (ap (λ (r : Made). r.answer) e)
+pub refused_one : {k j : RefusalKind} {p q : ℕ} → refused k p ≡ refused j q → (k ≡ j) × (p ≡ q)
+refused_one {k} {j} {p} {q} e = parts (ap (λ (m : Made). m.answer) e)
   where
-    parts : Refused n p ≡ Refused m q → (n ≡ m) × (p ≡ q)
+    parts : {r s : Refusal} → ◌≡◌ {A = Result ⊤ Refusal} (Err r) (Err s) → (r.kind ≡ s.kind) × (r.place ≡ s.place)
     parts d = (cc, cc)
 
 module _ {new : Table} {new_names : List ℕ} {old : Table} {old_names : List ℕ} {before after : Areas} where
   pub yes_means :
-      {c : ℕ} → Replaces new new_names old old_names before after (the.Yes c)
+      {c : ℕ} → Replaces new new_names old old_names before after (Ok (the.Yes c))
       → NoRefusal new new_names old old_names before × SaysYes new new_names old old_names before after c
   yes_means (says_yes F Y) = (F, Y)
 
   pub no_means :
-      {f : Found} → Replaces new new_names old old_names before after (the.No f)
+      {f : Found} → Replaces new new_names old old_names before after (Ok (the.No f))
       → NoRefusal new new_names old old_names before × SaysNo new new_names old old_names before after f
   no_means (says_no F X) = (F, X)
 

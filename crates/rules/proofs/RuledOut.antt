@@ -20,17 +20,20 @@ use Rattle.rules.proofs.Replies.{made_not_refused, refused_one}
 use Rattle.rules.proofs.Starred.{R}
 use Rattle.rules.specs.Basics.{bytes}
 use Rattle.rules.specs.Formed.{well_formed}
-use Rattle.rules.specs.Line.{Question, Answers, Prints, first_refused, second_refused, yes, no, line, fields}
-use Rattle.rules.specs.Refusals.{unexpected, never_defined, leads_round}
+use Rattle.rules.specs.Line.{Answers, Prints, first_refused, second_refused, yes, no, line, fields}
+use Rattle.table.specs.declared.answers.Question.{Question}
 use Rattle.rules.specs.Replies.{Reads, made, refused, dual_reply, Areas, AsksCompatible, no_dual, then_verdict}
 use Rattle.rules.specs.Tables.{blank_table, node_at, item_at}
 use Rattle.table.specs.declared.Item.TheVariants.{Session}
 use Rattle.table.specs.declared.Table.{Table}
 use Rattle.table.specs.declared.answers.Made.{Made}
-use Rattle.table.specs.declared.answers.Verdict.{Verdict}
+use Rattle.rules.specs.Replies.{Answer}
+use Rattle.rules.specs.Refusals.{number}
+use Rattle.table.specs.declared.answers.RefusalKind.{RefusalKind}
+use Rattle.table.specs.declared.answers.RefusalKind.TheVariants as kind
 
 -- Reading. The empty text is refused with 2 at 0 ..
-pub reads_empty : Reads [] (refused unexpected 0)
+pub reads_empty : Reads [] (refused kind.Unexpected 0)
 unfolding computes
 reads_empty = reads_reading []
 
@@ -42,12 +45,12 @@ empty_accepted t r = made_not_refused (one_reading r reads_empty)
 abbrev pub own_name : String
 own_name = "A = A ."
 
-own_name_round : Reads (bytes own_name) (refused leads_round 0)
+own_name_round : Reads (bytes own_name) (refused kind.LeadsRound 0)
 unfolding computes
 own_name_round = reads_reading (bytes own_name)
 
-pub own_name-undefined : (p : ℕ) → Reads (bytes own_name) (refused never_defined p) → ⊥
-own_name-undefined p r = omega (arith, (refused_one (one_reading r own_name_round)).0)
+pub own_name-undefined : (p : ℕ) → Reads (bytes own_name) (refused kind.NeverDefined p) → ⊥
+own_name-undefined p r = omega (arith, ap number (refused_one (one_reading r own_name_round)).0)
 
 -- Well formed: a table with no node is not, nor is one whose name bytes end before its labels do.
 pub no-node_formed : well_formed blank_table [] ≡ true → ⊥
@@ -63,20 +66,20 @@ pub item_turned : item_at (node_at (dual_reply (table A) (bytes A)).table 0) 0 �
 unfolding computes
 item_turned e = let z : ◌≡◌ {A = ℕ} 2 0 = cc in omega arith
 
-pub dual-refused : (n p : ℕ) → dual_reply (table A) (bytes A) ≡ refused n p → ⊥
+pub dual-refused : (k : RefusalKind) (p : ℕ) → dual_reply (table A) (bytes A) ≡ refused k p → ⊥
 unfolding computes
-dual-refused n p e = made_not_refused e
+dual-refused k p e = made_not_refused e
 
 -- Compatible: the verdict is not asked of the other table itself, nor where the dual was refused.
-pub not_the_dual : (before after : Areas) (v : Option Verdict) → AsksCompatible (table A) (bytes A) (table A) (bytes A) before after (made (table A)) v → ⊥
+pub not_the_dual : (before after : Areas) (v : Option Answer) → AsksCompatible (table A) (bytes A) (table A) (bytes A) before after (made (table A)) v → ⊥
 unfolding computes
 not_the_dual before after v r = by_reply r refl
   where
-    by_reply : {m : Made} {w : Option Verdict} → AsksCompatible (table A) (bytes A) (table A) (bytes A) before after m w → m ≡ made (table A) → ⊥
+    by_reply : {m : Made} {w : Option Answer} → AsksCompatible (table A) (bytes A) (table A) (bytes A) before after m w → m ≡ made (table A) → ⊥
     by_reply (no_dual e q) d = made_not_refused (sym d)
     by_reply (then_verdict e X) d = let z : ◌≡◌ {A = ℕ} 4 2 = ap (λ (m : Made). m.table.count) (e ∙ d) in omega arith
 
-pub asked_all_the_same : (before after : Areas) (m : Made) (v : Verdict) → AsksCompatible (table A) (bytes A) blank_table [] before after m (some v) → ⊥
+pub asked_all_the_same : (before after : Areas) (m : Made) (v : Answer) → AsksCompatible (table A) (bytes A) blank_table [] before after m (some v) → ⊥
 unfolding computes
 asked_all_the_same before after m v (then_verdict e X) = made_not_refused (sym e)
 
@@ -89,8 +92,8 @@ fed : (w ks : List ℕ) → (k : List ℕ) × (line w ks ≡ k ++ bytes "\n")
 fed w ks = (w ++ fields ks, refl)
 
 pub line_feed_last : {q : Question} {new old : List ℕ} {before after : Areas} {l : List ℕ} → Answers q new old before after l → (k : List ℕ) × (l ≡ k ++ bytes "\n")
-line_feed_last (first_refused {n} {p} a e) = fed (bytes "refused") (n ∷ 1 ∷ p ∷ [])
-line_feed_last (second_refused {n = n} {p = p} a b e) = fed (bytes "refused") (n ∷ 2 ∷ p ∷ [])
+line_feed_last (first_refused {k} {p} a e) = fed (bytes "refused") (number k ∷ 1 ∷ p ∷ [])
+line_feed_last (second_refused {k = k} {p = p} a b e) = fed (bytes "refused") (number k ∷ 2 ∷ p ∷ [])
 line_feed_last (yes {count = c} a b d) = fed (bytes "yes") (c ∷ [])
 line_feed_last {after = r} (no {found = f} a b d) =
     fed (bytes "no") (f.reason ∷ f.detail ∷ f.new ∷ f.old ∷ f.turn ∷ take f.steps r.path)

@@ -1,6 +1,7 @@
 -- Two nodes beside each other, and two that say the same: the same is wrong with both, and each step leads to the same.
 -- Items and labels are read below their counts only; a step reads a label where nothing is lacking, so that it is there.
 -- Assumes nothing.
+use Rattle.std.specs.Prelude.{None, Some}
 use mathlib.Core.Bool.{Bool, true, false, not}
 use mathlib.Core.List.{List}
 use mathlib.Core.Path.{◌≡◌, refl, ap, ap₂, ◌∙◌}
@@ -10,7 +11,7 @@ use lib.Dec.{eqb, leb, ltb}
 use borrow.Author.Tests.{eqb-true, ltb-true}
 use Rattle.rules.specs.Basics.{same, first}
 use Rattle.rules.specs.Tables.{item_count, item_at, label_count, label_at, spelling_at, continuation, SameNode}
-use Rattle.rules.specs.Pairs.{Onward, or_else, unless, at_first, kind_number, kinds_differ, counts_differ, items_agree, item_differs, position, lacks, label_lacking, by_chooser, mismatch_of, onto, nowhere, exchanged, continuation_step, into_item, message_step, choice_step, step_by, step_of}
+use Rattle.rules.specs.Pairs.{Wrong, Onward, or_else, unless, at_first, kind_number, kinds_differ, counts_differ, items_agree, item_differs, position, lacks, label_lacking, by_chooser, mismatch_of, onto, nowhere, exchanged, continuation_step, into_item, message_step, choice_step, step_by, step_of}
 use Rattle.rules.proofs.Basics.{first_found, found_first}
 use Rattle.rules.proofs.Steps.{unless_nothing, none_lacking, no_mismatch}
 use Rattle.rules.proofs.Tables.{same_node_spelling}
@@ -36,18 +37,15 @@ first_same {n} {m} p q e h =
 at_first_same :
     (r : ℕ → Mismatch) {n m : ℕ} (p q : ℕ → Bool) → n ≡ m → ((i : ℕ) → i < n → p i ≡ q i) → at_first r n p ≡ at_first r m q
 at_first_same r p q e h =
-    ap₂ {C = Mismatch} (λ (n i : ℕ). unless (leb n i) (r i)) e (first_same p q e h)
+    ap₂ {C = Wrong} (λ (n i : ℕ). unless (leb n i) (r i)) e (first_same p q e h)
 
 -- what comes second counts where the first is nothing
-or_else_same : (a b c d : Mismatch) → a ≡ b → (a ≡ mismatch.Nothing → c ≡ d) → or_else a c ≡ or_else b d
-or_else_same a b c d e f = ap (λ (m : Mismatch). or_else m c) e ∙ go b (λ z. f (e ∙ z))
+or_else_same : (a b c d : Wrong) → a ≡ b → (a ≡ None → c ≡ d) → or_else a c ≡ or_else b d
+or_else_same a b c d e f = ap (λ (m : Wrong). or_else m c) e ∙ go b (λ z. f (e ∙ z))
   where
-    go : (b : Mismatch) → (b ≡ mismatch.Nothing → c ≡ d) → or_else b c ≡ or_else b d
-    go mismatch.Nothing f = f refl
-    go mismatch.Kinds f = refl
-    go mismatch.Counts f = refl
-    go (mismatch.Item i) f = refl
-    go (mismatch.Label i) f = refl
+    go : (b : Wrong) → (b ≡ None → c ≡ d) → or_else b c ≡ or_else b d
+    go None f = f refl
+    go (Some w) f = refl
 
 -- nodes that say the same beside their labels
 pub record SameButLabels (x y : Node) : Type 0 where
@@ -72,11 +70,11 @@ module _ {x x' y y' : Node} (S : SameButLabels x x') (T : SameButLabels y y') wh
       → mismatch_of x xs y ys ≡ mismatch_of x' xs y' ys
   unfolding mismatch_of kinds_differ counts_differ
   mismatch_but_labels xs ys e =
-      or_else_same _ _ _ _ (ap₂ {C = Mismatch} (λ (j k : Kind). unless (eqb (kind_number j) (kind_number k)) mismatch.Kinds) S.kind T.kind)
+      or_else_same _ _ _ _ (ap₂ {C = Wrong} (λ (j k : Kind). unless (eqb (kind_number j) (kind_number k)) mismatch.Kinds) S.kind T.kind)
       (λ a.
-      or_else_same _ _ _ _ (ap₂ {C = Mismatch} (λ (n m : ℕ). unless (eqb n m) mismatch.Counts) S.items T.items)
+      or_else_same _ _ _ _ (ap₂ {C = Wrong} (λ (n m : ℕ). unless (eqb n m) mismatch.Counts) S.items T.items)
       (λ b.
-      or_else_same _ _ _ _ (item_differs_same (eqb-true _ _ (unless_nothing _ mismatch.Counts (omega arith) b)))
+      or_else_same _ _ _ _ (item_differs_same (eqb-true _ _ (unless_nothing _ mismatch.Counts b)))
       (λ c. e ∙ ap (λ (k : Kind). by_chooser k (label_lacking x' xs y' ys) (label_lacking y' ys x' xs)) S.kind)))
 
   pub message_step_same : item_count x ≡ item_count y → (t : Bool) (s : ℕ) → message_step x y t s ≡ message_step x' y' t s
@@ -123,7 +121,7 @@ module _ {x x' y y' : Node} (xs ys : List ℕ) (S : SameNode x x') (T : SameNode
   label_lacking_same =
       at_first_same mismatch.Label (lacks x xs y ys) (lacks x' xs y' ys) S.labels (λ i l. ap₂ {C = Bool} leb T.labels (place_same i l))
 
-  choice_step_same : label_lacking x xs y ys ≡ mismatch.Nothing → (s : ℕ) → choice_step x xs y ys s ≡ choice_step x' xs y' ys s
+  choice_step_same : label_lacking x xs y ys ≡ None → (s : ℕ) → choice_step x xs y ys s ≡ choice_step x' xs y' ys s
   unfolding choice_step
   choice_step_same e s = go (ltb s (label_count x)) refl ∙ ap (λ (n : ℕ). by_test (ltb s n)) S.labels
     where
@@ -151,14 +149,14 @@ module _ {x x' y y' : Node} (xs ys : List ℕ) (S : SameNode x x') (T : SameNode
   pub mismatch_same : mismatch_of x xs y ys ≡ mismatch_of x' xs y' ys
   mismatch_same =
       mismatch_but_labels (same_but_labels S) (same_but_labels T) xs ys
-      (ap₂ {C = Mismatch} (by_chooser x.kind) (label_lacking_same xs ys S T) (label_lacking_same ys xs T S))
+      (ap₂ {C = Wrong} (by_chooser x.kind) (label_lacking_same xs ys S T) (label_lacking_same ys xs T S))
 
-  pub step_same : mismatch_of x xs y ys ≡ mismatch.Nothing → (s : ℕ) → step_of x xs y ys s ≡ step_of x' xs y' ys s
+  pub step_same : mismatch_of x xs y ys ≡ None → (s : ℕ) → step_of x xs y ys s ≡ step_of x' xs y' ys s
   unfolding step_of
   step_same e s = let f = no_mismatch x xs y ys e in go f.0 x.kind f.1 ∙ ap (λ (k : Kind). step_by k x' xs y' ys s) S.kind
     where
       go :
-          item_count x ≡ item_count y → (k : Kind) → by_chooser k (label_lacking x xs y ys) (label_lacking y ys x xs) ≡ mismatch.Nothing
+          item_count x ≡ item_count y → (k : Kind) → by_chooser k (label_lacking x xs y ys) (label_lacking y ys x xs) ≡ None
           → step_by k x xs y ys s ≡ step_by k x' xs y' ys s
       go c End d = refl
       go c Receive d = message_step_same (same_but_labels S) (same_but_labels T) c false s

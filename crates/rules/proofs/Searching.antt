@@ -2,6 +2,7 @@
 -- The queue is increasing in the order of runs. So the first mismatch that is taken from it has the first run of all that end at one; and
 -- where nothing is left in it, its pairs are the smallest closed set.
 -- Assumes nothing.
+use Rattle.std.specs.Prelude.{None}
 use mathlib.Core.Bool.{Bool, true}
 use mathlib.Core.List.{List, [], ◌∷◌, ◌++◌}
 use mathlib.Core.Logic.{◌⊎◌, inl, inr, ⊎_elim}
@@ -24,7 +25,6 @@ use Rattle.rules.proofs.Runs.{leads_snoc, run_grows}
 use Rattle.rules.proofs.Smallest.{reached_smallest}
 use Rattle.rules.proofs.Steps.{step_one}
 use Rattle.table.specs.declared.Table.{Table}
-use Rattle.table.specs.declared.answers.Mismatch.TheVariants.{Nothing}
 
 -- one of the first n entries has the pair q, and a run that is not after r
 abbrev pub Has : (ℕ → Pair) → (ℕ → List ℕ) → ℕ → Pair → List ℕ → Type 0
@@ -41,7 +41,7 @@ pub record Searched (new : Table) (new_names : List ℕ) (old : Table) (old_name
   pub below : h < n → (j : ℕ) → j < n → Before (R j) (R h ++ (k ∷ []))
   pub closed : (i : ℕ) → i < h → (s : ℕ) (q : Pair) → Step new new_names old old_names (Q i) s q → Has Q R n q (R i ++ (s ∷ []))
   pub part : (s : ℕ) → s < k → (q : Pair) → Step new new_names old old_names (Q h) s q → Has Q R n q (R h ++ (s ∷ []))
-  pub good : (i : ℕ) → i < g → mismatch_at new new_names old old_names (Q i) ≡ Nothing
+  pub good : (i : ℕ) → i < g → mismatch_at new new_names old old_names (Q i) ≡ None
 
 -- whether a pair is one of the first n entries'
 abbrev pub entered : (ℕ → Pair) → ℕ → Pair → Bool
@@ -110,7 +110,7 @@ module _ {new : Table} {new_names : List ℕ} {old : Table} {old_names : List �
         }
 
     -- entry g has no mismatch
-    pub search_passes : mismatch_at new new_names old old_names (Q g) ≡ Nothing → Searched new new_names old old_names Q R n (g + 1) h k
+    pub search_passes : mismatch_at new new_names old old_names (Q g) ≡ None → Searched new new_names old old_names Q R n (g + 1) h k
     search_passes e =
         record {
           some = I.some;
@@ -121,7 +121,7 @@ module _ {new : Table} {new_names : List ℕ} {old : Table} {old_names : List �
           below = I.below;
           closed = I.closed;
           part = I.part;
-          good = below_more (λ (i : ℕ). mismatch_at new new_names old old_names (Q i) ≡ Nothing) g I.good e;
+          good = below_more (λ (i : ℕ). mismatch_at new new_names old old_names (Q i) ≡ None) g I.good e;
         }
 
     -- entry h is expanded: no step of it is numbered k or higher

@@ -1,6 +1,7 @@
 -- Every number that is printed is small: places stand inside a text, nodes inside the tables, details and steps below the most that
 -- a choice has labels, and marks are counted among the pairs.
 -- Assumes nothing.
+use Rattle.std.specs.Prelude.{None, Some}
 use mathlib.Core.Bool.{Bool, true, false, not}
 use mathlib.Core.List.{List, [], ◌∷◌, ◌++◌, nil≢cons, head-eq_of_cons-eq, tail-eq_of_cons-eq}
 use mathlib.Core.Path.{◌≡◌, refl, sym, ◌∙◌}
@@ -16,12 +17,12 @@ use Rattle.rules.specs.Numbers.{text_most, items_most, labels_most, table_nodes_
 use Rattle.rules.specs.Tokens.{Token, Symbol, symbols, tokens}
 use Rattle.rules.specs.Refusals.{Fault, long_text, no_text_has, none_may_end, at_token, undefined_name, round_name, OneOf}
 use Rattle.rules.specs.Tables.{item_at, item_count, label_count}
-use Rattle.rules.specs.Pairs.{Pair, turns_most, reason, detail, or_else, unless, kind_number, kinds_differ, counts_differ, items_agree, item_differs, lacks, label_lacking, by_chooser, mismatch_of, mismatch_at, starts}
+use Rattle.rules.specs.Pairs.{Wrong, Pair, turns_most, reason, detail, or_else, unless, kind_number, kinds_differ, counts_differ, items_agree, item_differs, lacks, label_lacking, by_chooser, mismatch_of, mismatch_at, starts}
 use Rattle.rules.specs.Runs.{Leads}
 use Rattle.rules.specs.Replies.{Areas, Reads, NoRefusal, SaysYes, SaysNo, pair_count, refused}
 use Rattle.rules.proofs.Agreement.{reads_long}
 use Rattle.rules.proofs.Entries.{count_within}
-use Rattle.rules.proofs.Exactly.{refused_exactly}
+use Rattle.rules.proofs.Exactly.{refused_by_kind}
 use Rattle.rules.proofs.Formed.{FormedNode, WellFormed, formed}
 use Rattle.rules.proofs.Links.{Each}
 use Rattle.rules.proofs.NamesInOrder.{InOrder, no_more, taken, passed, uses_in_order, defined_in_order, symbol_word, one_first, one_later}
@@ -38,6 +39,8 @@ use Rattle.table.specs.declared.Table.{Table}
 use Rattle.table.specs.declared.answers.Found.{Found}
 use Rattle.table.specs.declared.answers.Mismatch.{Mismatch}
 use Rattle.table.specs.declared.answers.Mismatch.TheVariants as mismatch
+use Rattle.rules.specs.Refusals.{number}
+use Rattle.table.specs.declared.answers.RefusalKind.{RefusalKind}
 
 -- A refusal. A token in the order of a text's words is one of its tokens.
 in_order_among :
@@ -70,10 +73,10 @@ module _ {s : List ℕ} where
   fault_small (round_name {x} {t} w o e) =
       (omega arith, omega (arith, name_inside s t (rw w.written at (defined_in_order x)) o))
 
-  pub refusal_small : {n p : ℕ} → Reads s (refused n p) → (n < 10) × (p ≤ text_most)
-  refusal_small {n} {p} r = go (dec_lt text_most (length s)) (fault_small ((refused_exactly s n p).0 r).0)
+  pub refusal_small : {k : RefusalKind} {p : ℕ} → Reads s (refused k p) → (number k < 10) × (p ≤ text_most)
+  refusal_small {k} {p} r = go (dec_lt text_most (length s)) (fault_small ((refused_by_kind s k p).0 r).0)
     where
-      go : Dec (text_most < length s) → (n < 10) × (p ≤ length s) → (n < 10) × (p ≤ text_most)
+      go : Dec (text_most < length s) → (number k < 10) × (p ≤ length s) → (number k < 10) × (p ≤ text_most)
       go (yes l) h = let e = refused_one (one_reading r (reads_long l)) in (h.0, omega (arith, e.1))
       go (no l) h = (h.0, omega (arith, h.1))
 
@@ -86,29 +89,26 @@ module _ {new : Table} {new_names : List ℕ} {old : Table} {old_names : List �
       omega (arith, Y.counted, count_within (take N m), length-take N m, min-le_left N (length m))
 
 -- A no: its reason,
-reason_small : (m : Mismatch) → reason m < 24
-reason_small mismatch.Nothing = omega arith
-reason_small mismatch.Kinds = omega arith
-reason_small mismatch.Counts = omega arith
-reason_small (mismatch.Item i) = omega arith
-reason_small (mismatch.Label i) = omega arith
+reason_small : (m : Wrong) → reason m < 24
+reason_small None = omega arith
+reason_small (Some mismatch.Kinds) = omega arith
+reason_small (Some mismatch.Counts) = omega arith
+reason_small (Some (mismatch.Item i)) = omega arith
+reason_small (Some (mismatch.Label i)) = omega arith
 
 -- its detail,
-abbrev Small : Mismatch → Type 0
+abbrev Small : Wrong → Type 0
 Small m = detail m < labels_most
 
-or_else_small : (a b : Mismatch) → Small a → Small b → Small (or_else a b)
-or_else_small mismatch.Nothing b f g = g
-or_else_small mismatch.Kinds b f g = f
-or_else_small mismatch.Counts b f g = f
-or_else_small (mismatch.Item i) b f g = f
-or_else_small (mismatch.Label i) b f g = f
+or_else_small : (a b : Wrong) → Small a → Small b → Small (or_else a b)
+or_else_small None b f g = g
+or_else_small (Some w) b f g = f
 
-unless_small : (b : Bool) (m : Mismatch) → (b ≡ false → Small m) → Small (unless b m)
-unless_small true m f = omega arith
-unless_small false m f = f refl
+unless_small : (b : Bool) (w : Mismatch) → (b ≡ false → Small (Some w)) → Small (unless b w)
+unless_small true w f = omega arith
+unless_small false w f = f refl
 
-chooser_small : (k : Kind) (a b : Mismatch) → Small a → Small b → Small (by_chooser k a b)
+chooser_small : (k : Kind) (a b : Wrong) → Small a → Small b → Small (by_chooser k a b)
 chooser_small End a b f g = g
 chooser_small Receive a b f g = g
 chooser_small Send a b f g = g

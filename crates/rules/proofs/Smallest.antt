@@ -2,6 +2,7 @@
 -- Whether at most k steps reach a pair is a test. With growing k the pairs so reached come to rest (Growing), and are then a closed
 -- set: the smallest set is inside it.
 -- Assumes nothing.
+use Rattle.std.specs.Prelude.{None}
 use mathlib.Core.Bool.{Bool, true, false, false≢true, ◌||◌}
 use mathlib.Core.List.{List, [], ◌∷◌, ◌++◌}
 use mathlib.Core.Option.{Option, none, some}
@@ -26,7 +27,6 @@ use Rattle.rules.proofs.Runs.{leads_snoc, leads_within, starts_within}
 use Rattle.rules.proofs.Places.{pair_at, pair_at_place, place_below}
 use Rattle.rules.proofs.Growing.{comes_to_rest}
 use Rattle.table.specs.declared.Table.{Table}
-use Rattle.table.specs.declared.answers.Mismatch.TheVariants.{Nothing}
 
 module _ {new : Table} {new_names : List ℕ} {old : Table} {old_names : List ℕ} where
   pub smallest_unique :
@@ -44,7 +44,7 @@ module _ {new : Table} {new_names : List ℕ} {old : Table} {old_names : List �
 
     -- demand 3, after a yes: no run reaches a mismatch
     pub closed_no_mismatch :
-        (r : List ℕ) (q : Pair) → Run new new_names old old_names r q → mismatch_at new new_names old old_names q ≡ Nothing
+        (r : List ℕ) (q : Pair) → Run new new_names old old_names r q → mismatch_at new new_names old old_names q ≡ None
     closed_no_mismatch r q L = C.no_mismatch q (closed_reached r q L)
 
   pub reached_smallest :

@@ -7,8 +7,13 @@ use Rattle.rules.proofs.Agreement.{reads_reading}
 use Rattle.rules.proofs.Computes.{computes}
 use Rattle.rules.proofs.LineAgreement.{prints_printed}
 use Rattle.rules.specs.Basics.{bytes}
-use Rattle.rules.specs.Line.{Prints, may_replace}
+use Rattle.rules.specs.Line.{Prints}
+use Rattle.table.specs.declared.answers.Question.TheVariants.{MayReplace}
 use Rattle.rules.specs.Replies.{Reads, refused}
+use mathlib.Core.Path.{◌≡◌, refl}
+use Rattle.rules.specs.Refusals.{number}
+use Rattle.table.specs.declared.answers.RefusalKind.{RefusalKind}
+use Rattle.table.specs.declared.answers.RefusalKind.TheVariants as kind
 
 pub data Row : Type 0 where
   -- new, old, and the line
@@ -18,8 +23,8 @@ pub data Row : Type 0 where
 
 -- a text's row says what the declared reading replies, and a line's row what the declared verdict prints
 abbrev pub Holds : Row → Type 0
-Holds (compared new old line) = Prints may_replace (bytes new ++ (0 ∷ bytes old)) (bytes line)
-Holds (read text number place) = Reads (bytes text) (refused number place)
+Holds (compared new old line) = Prints MayReplace (bytes new ++ (0 ∷ bytes old)) (bytes line)
+Holds (read text n p) = (k : RefusalKind) × (number k ≡ n) × Reads (bytes text) (refused k p)
 
 abbrev pub AllHold : List Row → Type 0
 AllHold [] = Unit {0}
@@ -59,4 +64,4 @@ starred =
 pub starred_hold : AllHold starred
 unfolding computes starred
 starred_hold =
-    (prints_printed _ _, (prints_printed _ _, (prints_printed _ _, (prints_printed _ _, (prints_printed _ _, (prints_printed _ _, (prints_printed _ _, (prints_printed _ _, (prints_printed _ _, (reads_reading _, (reads_reading _, (reads_reading _, tt))))))))))))
+    (prints_printed _ _, (prints_printed _ _, (prints_printed _ _, (prints_printed _ _, (prints_printed _ _, (prints_printed _ _, (prints_printed _ _, (prints_printed _ _, (prints_printed _ _, ((kind.Unexpected, refl, reads_reading _), ((kind.LeadsRound, refl, reads_reading _), ((kind.NeverDefined, refl, reads_reading _), tt))))))))))))

@@ -2,10 +2,11 @@
 -- most that a choice has labels.
 -- Where a step leads is looked at node by node: its links are within the tables because no mismatch stands in the way.
 -- Assumes nothing.
+use Rattle.std.specs.Prelude.{None, Some}
 use mathlib.Core.Bool.{Bool, true, false}
 use mathlib.Core.List.{List}
 use mathlib.Core.Option.{some, some-injective}
-use mathlib.Core.Path.{◌≡◌, refl, ap, subst}
+use mathlib.Core.Path.{◌≡◌, refl, subst}
 use Prim.Native.Nat.{ℕ, zero, suc, ◌<◌, ◌≤◌}
 use native.Mathlib.Omega.{arith}
 use lib.Dec.{eqb, ltb}
@@ -13,7 +14,7 @@ use borrow.Author.Tests.{eqb-true, leb-true, leb-false, ltb-true}
 use Rattle.rules.specs.Basics.{first}
 use Rattle.rules.specs.Numbers.{labels_most}
 use Rattle.rules.specs.Tables.{item_count, item_at, label_count, label_at, spelling_at, continuation}
-use Rattle.rules.specs.Pairs.{Pair, Onward, Step, reason, or_else, unless, kinds_differ, counts_differ, item_differs, position, lacks, label_lacking, by_chooser, mismatch_of, mismatch_at, onto, nowhere, exchanged, continuation_step, into_item, message_step, choice_step, step_by, step_of, step_at, landed, left_in, right_in, turn_after, turns_most}
+use Rattle.rules.specs.Pairs.{Wrong, Pair, Onward, Step, or_else, unless, kinds_differ, counts_differ, item_differs, position, lacks, label_lacking, by_chooser, mismatch_of, mismatch_at, onto, nowhere, exchanged, continuation_step, into_item, message_step, choice_step, step_by, step_of, step_at, landed, left_in, right_in, turn_after, turns_most}
 use Rattle.rules.proofs.Basics.{first_found, none_some}
 use Rattle.rules.proofs.Formed.{FormedMessage, FormedChoice, FormedNode, WellFormed}
 use Rattle.table.specs.declared.Kind.{Kind}
@@ -26,36 +27,33 @@ use Rattle.table.specs.declared.answers.Mismatch.{Mismatch}
 use Rattle.table.specs.declared.answers.Mismatch.TheVariants as mismatch
 
 -- where nothing is wrong, no reason applies
-pub or_else_nothing : (a b : Mismatch) → or_else a b ≡ mismatch.Nothing → (a ≡ mismatch.Nothing) × (b ≡ mismatch.Nothing)
-or_else_nothing mismatch.Nothing b e = (refl, e)
-or_else_nothing mismatch.Kinds b e = absurd (omega (arith, ap reason e))
-or_else_nothing mismatch.Counts b e = absurd (omega (arith, ap reason e))
-or_else_nothing (mismatch.Item i) b e = absurd (omega (arith, ap reason e))
-or_else_nothing (mismatch.Label i) b e = absurd (omega (arith, ap reason e))
+pub or_else_nothing : (a b : Wrong) → or_else a b ≡ None → (a ≡ None) × (b ≡ None)
+or_else_nothing None b e = (refl, e)
+or_else_nothing (Some w) b e = absurd cc
 
-pub unless_nothing : (b : Bool) (m : Mismatch) → 0 < reason m → unless b m ≡ mismatch.Nothing → b ≡ true
-unless_nothing true m l e = refl
-unless_nothing false m l e = absurd (omega (arith, ap reason e))
+pub unless_nothing : (b : Bool) (w : Mismatch) → unless b w ≡ None → b ≡ true
+unless_nothing true w e = refl
+unless_nothing false w e = absurd cc
 
 pub none_lacking :
-    (x : Node) (xs : List ℕ) (y : Node) (ys : List ℕ) → label_lacking x xs y ys ≡ mismatch.Nothing → (i : ℕ) → i < label_count x
+    (x : Node) (xs : List ℕ) (y : Node) (ys : List ℕ) → label_lacking x xs y ys ≡ None → (i : ℕ) → i < label_count x
     → position (spelling_at x xs i) y ys < label_count y
 unfolding label_lacking lacks
 none_lacking x xs y ys e i l =
-    let none_before : label_count x ≤ first (label_count x) (lacks x xs y ys) = leb-true _ _ (unless_nothing _ (mismatch.Label _) (omega arith) e) in
+    let none_before : label_count x ≤ first (label_count x) (lacks x xs y ys) = leb-true _ _ (unless_nothing _ (mismatch.Label _) e) in
     leb-false _ _ ((first_found (label_count x) (lacks x xs y ys)).before i (omega arith))
 
 -- what of this a step stands on
 pub no_mismatch :
-    (x : Node) (xs : List ℕ) (y : Node) (ys : List ℕ) → mismatch_of x xs y ys ≡ mismatch.Nothing
-    → (item_count x ≡ item_count y) × (by_chooser x.kind (label_lacking x xs y ys) (label_lacking y ys x xs) ≡ mismatch.Nothing)
+    (x : Node) (xs : List ℕ) (y : Node) (ys : List ℕ) → mismatch_of x xs y ys ≡ None
+    → (item_count x ≡ item_count y) × (by_chooser x.kind (label_lacking x xs y ys) (label_lacking y ys x xs) ≡ None)
 unfolding mismatch_of counts_differ
 no_mismatch x xs y ys e =
     let labels = by_chooser x.kind (label_lacking x xs y ys) (label_lacking y ys x xs) in
     let a = or_else_nothing (kinds_differ x y) (or_else (counts_differ x y) (or_else (item_differs x y) labels)) e in
     let b = or_else_nothing (counts_differ x y) (or_else (item_differs x y) labels) a.1 in
     let c = or_else_nothing (item_differs x y) labels b.1 in
-    (eqb-true _ _ (unless_nothing _ mismatch.Counts (omega arith) b.0), c.1)
+    (eqb-true _ _ (unless_nothing _ mismatch.Counts b.0), c.1)
 
 -- step s leads within n and m nodes, and is low enough
 abbrev Lands : ℕ → ℕ → ℕ → Onward → Type 0
@@ -84,7 +82,7 @@ module _ {n m : ℕ} {x : Node} {y : Node} (s : ℕ) (t : Bool) (fx : FormedMess
       go false d false e = tt
 
 module _ {n m : ℕ} {x : Node} {xs : List ℕ} {y : Node} {ys : List ℕ} (s : ℕ) (fx : FormedChoice n xs x) (fy : FormedChoice m ys y) where
-  choice_lands : label_lacking x xs y ys ≡ mismatch.Nothing → Lands n m s (choice_step x xs y ys s)
+  choice_lands : label_lacking x xs y ys ≡ None → Lands n m s (choice_step x xs y ys s)
   unfolding choice_step
   choice_lands e = go (ltb s (label_count x)) refl
     where
@@ -105,12 +103,12 @@ exchanged_lands n m s (onto l r t) h = (h.1, h.0, h.2)
 
 node_lands :
     {n m : ℕ} {x : Node} {xs : List ℕ} {y : Node} {ys : List ℕ} (s : ℕ) → FormedNode n xs x → FormedNode m ys y
-    → mismatch_of x xs y ys ≡ mismatch.Nothing → Lands n m s (step_of x xs y ys s)
+    → mismatch_of x xs y ys ≡ None → Lands n m s (step_of x xs y ys s)
 unfolding step_of
 node_lands {n} {m} {x} {xs} {y} {ys} s fx fy e = let f = no_mismatch x xs y ys e in go f.0 x.kind f.1
   where
     go :
-        item_count x ≡ item_count y → (k : Kind) → by_chooser k (label_lacking x xs y ys) (label_lacking y ys x xs) ≡ mismatch.Nothing
+        item_count x ≡ item_count y → (k : Kind) → by_chooser k (label_lacking x xs y ys) (label_lacking y ys x xs) ≡ None
         → Lands n m s (step_by k x xs y ys s)
     go c End e = tt
     go c Receive e = message_lands s false fx.message fy.message c
@@ -167,7 +165,7 @@ lands_inside n m s (suc u) l (onto a b t) h q e = (
 -- the steps of two nodes that fit, in turn u
 pub nodes_land :
     {n m u : ℕ} {x : Node} {xs : List ℕ} {y : Node} {ys : List ℕ} → u < turns_most → FormedNode (left_in u n m) xs x
-    → FormedNode (right_in u n m) ys y → mismatch_of x xs y ys ≡ mismatch.Nothing → (s : ℕ) (q : Pair)
+    → FormedNode (right_in u n m) ys y → mismatch_of x xs y ys ≡ None → (s : ℕ) (q : Pair)
     → landed u (step_of x xs y ys s) ≡ some q → Inside n m q × (s < labels_most)
 nodes_land {n} {m} {u} {x} {xs} {y} {ys} l fx fy e s q d = lands_inside n m s u l (step_of x xs y ys s) (node_lands s fx fy e) q d
 

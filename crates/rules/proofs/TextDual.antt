@@ -13,7 +13,9 @@ use Rattle.rules.specs.Numbers.{table_nodes_most}
 use Rattle.rules.specs.Tables.{blank_table}
 use Rattle.rules.specs.Dual.{dual, dual_count, hands_over}
 use Rattle.rules.specs.Formed.{well_formed}
-use Rattle.rules.specs.Line.{Question, may_replace, is_compatible, against}
+use Rattle.rules.specs.Line.{against}
+use Rattle.table.specs.declared.answers.Question.{Question}
+use Rattle.table.specs.declared.answers.Question.TheVariants.{MayReplace, IsCompatible}
 use Rattle.rules.specs.Replies.{Reads, made, dual_reply}
 use Rattle.table.specs.declared.Table.{Table}
 
@@ -23,8 +25,8 @@ twice_most false n = omega arith
 
 -- beside a refusal there are no nodes, turned round or not
 pub blank-against : (q : Question) → (against q blank_table).count ≡ 0
-blank-against may_replace = refl
-blank-against is_compatible = dual_size blank_table refl ∙ none (hands_over blank_table)
+blank-against MayReplace = refl
+blank-against IsCompatible = dual_size blank_table refl ∙ none (hands_over blank_table)
   where
     none : (b : Bool) → dual_count b 0 ≡ 0
     none true = refl
@@ -39,9 +41,9 @@ module _ {s : List ℕ} {t : Table} (r : Reads s (made t)) where
 
   -- what new is held against has at most 128 nodes, and is well formed
   pub against_few : (q : Question) → (against q t).count ≤ table_nodes_most
-  against_few may_replace = omega (arith, read_few r)
-  against_few is_compatible = rw (dual_size t refl) count_few
+  against_few MayReplace = omega (arith, read_few r)
+  against_few IsCompatible = rw (dual_size t refl) count_few
 
   pub against_formed : (q : Question) → well_formed (against q t) s ≡ true
-  against_formed may_replace = read_formed r
-  against_formed is_compatible = dual_formed t s (read_formed r) (against_few is_compatible)
+  against_formed MayReplace = read_formed r
+  against_formed IsCompatible = dual_formed t s (read_formed r) (against_few IsCompatible)

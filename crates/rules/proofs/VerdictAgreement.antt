@@ -1,6 +1,7 @@
 -- The computed verdict is the declared one: the twin's reply is one that `Replaces` allows, for every input. So there is one.
 -- The search's invariant (Searching) is carried through the twin's moves; there are no more entries than pairs (Entries), so it ends.
 -- Assumes nothing.
+use Rattle.std.specs.Prelude.{None}
 use mathlib.Core.Bool.{Bool, true, false}
 use mathlib.Core.List.{List, [], ◌∷◌, ◌++◌}
 use mathlib.Core.Logic.{◌↔◌}
@@ -15,7 +16,6 @@ use lib.Seq.{get_or-append_seam, take_at, drop_at}
 use borrow.Author.Tests.{ltb-true, ltb-false}
 use Rattle.rules.specs.Numbers.{labels_most}
 use Rattle.rules.specs.Formed.{well_formed}
-use Rattle.rules.specs.Refusals.{not_well_formed, area_too_short}
 use Rattle.rules.specs.Pairs.{Pair, Step, starts, mismatch_at, step_at, IsMismatch}
 use Rattle.rules.specs.Runs.{Run, Before}
 use Rattle.rules.specs.Replies.{Areas, NoRefusal, Replaces, new_not_formed, old_not_formed, marks_short, path_short, scratch_short, says_yes, says_no, pair_count, scratch_size, mark_place, mark, count_marks}
@@ -30,8 +30,9 @@ use Rattle.rules.proofs.Runs.{leads_within, starts_within}
 use Rattle.rules.proofs.Searching.{Searched, entered, search_begins, search_skips, search_passes, search_expanded, search_pushes, search_earliest, search_smallest}
 use Rattle.rules.proofs.Steps.{Within, step_within, step-numbered}
 use Rattle.table.specs.declared.Table.{Table}
-use Rattle.table.specs.declared.answers.Mismatch.TheVariants as mismatch
-use Rattle.table.specs.declared.answers.Verdict.{Verdict}
+use Rattle.rules.specs.Replies.{Answer}
+use Rattle.table.specs.declared.answers.RefusalKind.{RefusalKind}
+use Rattle.table.specs.declared.answers.RefusalKind.TheVariants as kind
 
 module _ (new : Table) (new_names : List ℕ) (old : Table) (old_names : List ℕ) (new_formed : WellFormed new new_names) (old_formed : WellFormed old old_names) where
   -- the search stands at entry h, of which the steps below k were taken
@@ -142,7 +143,7 @@ module _ (new : Table) (new_names : List ℕ) (old : Table) (old_names : List �
   next es h = expand new new_names old old_names (get_or es h no_entry) labels_most zero es
 
   goes_on :
-      (es : List Entry) (h : ℕ) → Standing es h h 0 → h < length es → mismatch_at new new_names old old_names (pair_of es h) ≡ mismatch.Nothing
+      (es : List Entry) (h : ℕ) → Standing es h h 0 → h < length es → mismatch_at new new_names old old_names (pair_of es h) ≡ None
       → Standing (next es h) (suc h) (suc h) 0
   goes_on es h S l f =
       let E =
@@ -245,7 +246,7 @@ module _ (new : Table) (new_names : List ℕ) (old : Table) (old_names : List �
   abbrev Right : Reply → Type 0
   Right r = Replaces new new_names old old_names before r.areas r.answer
 
-  abbrev refusing : ℕ → ℕ → Reply
+  abbrev refusing : RefusalKind → ℕ → Reply
   refusing = refuse new new_names old old_names before
 
   pub verdict_replaces : Right (verdict new new_names old old_names before)
@@ -260,7 +261,7 @@ module _ (new : Table) (new_names : List ℕ) (old : Table) (old_names : List �
           → well_formed old old_names ≡ true → ltb (length before.marks) (pair_count new old) ≡ false
           → ltb (length before.path) (pair_count new old) ≡ false → Right (verdict new new_names old old_names before)
       by_scratch true s n o m p =
-          is {r = refusing area_too_short 3} (rw (verdict, n, o, m, p, s) refl)
+          is {r = refusing kind.AreaTooShort 3} (rw (verdict, n, o, m, p, s) refl)
           (scratch_short n o (ltb-false _ _ m) (ltb-false _ _ p) (ltb-true _ _ s) refl)
       by_scratch false s n o m p =
           is {r = settle new new_names old old_names before (outcome new new_names old old_names)} (rw (verdict, n, o, m, p, s) refl)
@@ -279,26 +280,26 @@ module _ (new : Table) (new_names : List ℕ) (old : Table) (old_names : List �
           → well_formed old old_names ≡ true → ltb (length before.marks) (pair_count new old) ≡ false
           → Right (verdict new new_names old old_names before)
       by_path true p n o m =
-          is {r = refusing area_too_short 2} (rw (verdict, n, o, m, p) refl) (path_short n o (ltb-false _ _ m) (ltb-true _ _ p) refl)
+          is {r = refusing kind.AreaTooShort 2} (rw (verdict, n, o, m, p) refl) (path_short n o (ltb-false _ _ m) (ltb-true _ _ p) refl)
       by_path false p n o m = by_scratch _ refl n o m p
 
       by_marks :
           (b : Bool) → ltb (length before.marks) (pair_count new old) ≡ b → well_formed new new_names ≡ true
           → well_formed old old_names ≡ true → Right (verdict new new_names old old_names before)
-      by_marks true m n o = is {r = refusing area_too_short 1} (rw (verdict, n, o, m) refl) (marks_short n o (ltb-true _ _ m) refl)
+      by_marks true m n o = is {r = refusing kind.AreaTooShort 1} (rw (verdict, n, o, m) refl) (marks_short n o (ltb-true _ _ m) refl)
       by_marks false m n o = by_path _ refl n o m
 
       by_old : (b : Bool) → well_formed old old_names ≡ b → well_formed new new_names ≡ true → Right (verdict new new_names old old_names before)
-      by_old false o n = is {r = refusing not_well_formed 2} (rw (verdict, n, o) refl) (old_not_formed n o refl)
+      by_old false o n = is {r = refusing kind.NotWellFormed 2} (rw (verdict, n, o) refl) (old_not_formed n o refl)
       by_old true o n = by_marks _ refl n o
 
       by_new : (b : Bool) → well_formed new new_names ≡ b → Right (verdict new new_names old old_names before)
-      by_new false n = is {r = refusing not_well_formed 1} (rw (verdict, n) refl) (new_not_formed n refl)
+      by_new false n = is {r = refusing kind.NotWellFormed 1} (rw (verdict, n) refl) (new_not_formed n refl)
       by_new true n = by_old _ refl n
 
   -- So a reply exists, and it is one.
   pub verdict_exactly :
-      (after : Areas) (v : Verdict)
+      (after : Areas) (v : Answer)
       → Replaces new new_names old old_names before after v ↔ (record { answer = v; areas = after } ≡ verdict new new_names old old_names before)
   verdict_exactly after v = (
     λ r.

@@ -8,7 +8,7 @@ use Prim.Native.Nat.{ℕ}
 use lib.ListN.{length}
 use Rattle.rules.specs.Tables.{node_at, SameNode, SameTable}
 use Rattle.rules.specs.Formed.{well_formed}
-use Rattle.rules.specs.Pairs.{Pair, Step, starts, left_in, right_in, mismatch_at, step_at, landed, reason, detail}
+use Rattle.rules.specs.Pairs.{Wrong, Pair, Step, starts, left_in, right_in, mismatch_at, step_at, landed, reason, detail}
 use Rattle.rules.specs.Runs.{Leads, Run}
 use Rattle.rules.specs.Replies.{Areas, NoRefusal, SaysNo, Replaces, new_not_formed, old_not_formed, marks_short, path_short, scratch_short, says_yes, says_no}
 use Rattle.rules.proofs.Following.{Follows, inside_same, starts_same, left_both, right_both, no_refusal_follows, yes_follows}
@@ -19,8 +19,7 @@ use Rattle.rules.proofs.Steps.{Within, step_within}
 use Rattle.rules.proofs.Tables.{same_table_sym}
 use Rattle.table.specs.declared.Table.{Table}
 use Rattle.table.specs.declared.answers.Found.{Found}
-use Rattle.table.specs.declared.answers.Mismatch.{Mismatch}
-use Rattle.table.specs.declared.answers.Verdict.{Verdict}
+use Rattle.rules.specs.Replies.{Answer}
 
 module _ {new new' : Table} (new_names : List ℕ) {old old' : Table} (old_names : List ℕ) (S : SameTable new new') (T : SameTable old old') where
   module _ (p : Pair) (w : Within new old p) where
@@ -108,7 +107,7 @@ module _ {new new' : Table} (new_names : List ℕ) {old old' : Table} (old_names
               (λ d. bad (end_same new_names old_names S' T' a' b' r q L ∙ d)) l;
           returned =
               X.returned
-              ∙ ap (λ (m : Mismatch).
+              ∙ ap (λ (m : Wrong).
               record {
                 reason = reason m;
                 detail = detail m;
@@ -123,7 +122,7 @@ module _ {new new' : Table} (new_names : List ℕ) {old old' : Table} (old_names
         }
 
 pub replaces_same :
-    {new new' : Table} {new_names : List ℕ} {old old' : Table} {old_names : List ℕ} {before after : Areas} {v : Verdict}
+    {new new' : Table} {new_names : List ℕ} {old old' : Table} {old_names : List ℕ} {before after : Areas} {v : Answer}
     → SameTable new new' → SameTable old old' → Replaces new new_names old old_names before after v
     → Replaces new' new_names old' old_names before after v
 replaces_same {new} {new'} {new_names} {old} {old'} {old_names} {before} {after} S T R = go R
@@ -143,7 +142,7 @@ replaces_same {new} {new'} {new_names} {old} {old'} {old_names} {before} {after}
     allowed : NoRefusal new new_names old old_names before → NoRefusal new' new_names old' old_names before
     allowed N = no_refusal_follows F (new_too N.new_formed) (old_too N.old_formed) N
 
-    go : {v : Verdict} → Replaces new new_names old old_names before after v → Replaces new' new_names old' old_names before after v
+    go : {v : Answer} → Replaces new new_names old old_names before after v → Replaces new' new_names old' old_names before after v
     go (new_not_formed a e) = new_not_formed (new_too a) e
     go (old_not_formed a b e) = old_not_formed (new_too a) (old_too b) e
     go (marks_short a b m e) = marks_short (new_too a) (old_too b) (rw (← S.count, ← T.count) m) e

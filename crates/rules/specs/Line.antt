@@ -1,10 +1,14 @@
 -- Document 01, "The printed verdict"; the same line is printed where compatible is asked.
 -- Assumes nothing.
-use Rattle.std.specs.Prelude.{true, false, List, [], ◌∷◌, ◌++◌, ◌≡◌, ℕ, zero, suc, ◌+◌, ◌/◌, ◌%◌, eqb, ltb, take}
+use Rattle.std.specs.Prelude.{true, false, List, [], ◌∷◌, ◌++◌, ◌≡◌, ℕ, zero, suc, ◌+◌, ◌/◌, ◌%◌, eqb, ltb, take, Ok}
 use Rattle.rules.specs.Basics.{bytes}
 use Rattle.rules.specs.Dual.{dual}
+use Rattle.rules.specs.Refusals.{number}
 use Rattle.rules.specs.Replies.{Reads, Areas, Replaces, refused, made}
 use Rattle.table.specs.declared.Table.{Table}
+use Rattle.table.specs.declared.answers.RefusalKind.{RefusalKind}
+use Rattle.table.specs.declared.answers.Question.{Question}
+use Rattle.table.specs.declared.answers.Question.TheVariants.{MayReplace, IsCompatible}
 use Rattle.table.specs.declared.answers.Found.{Found}
 use Rattle.table.specs.declared.answers.Verdict.TheVariants as verdict
 
@@ -46,29 +50,26 @@ no_line f steps = line (bytes "no") (f.reason ∷ f.detail ∷ f.new ∷ f.old �
 abbrev pub refused_line : ℕ → ℕ → ℕ → List ℕ
 refused_line number which place = line (bytes "refused") (number ∷ which ∷ place ∷ [])
 
--- What is asked of two texts: whether new may replace old, or whether new is compatible with other.
-pub data Question : Type 0 where
-  may_replace : Question
-  is_compatible : Question
-
 -- the table that new is held against, from that of the second text: "New is compatible with other if new may replace the dual of other."
 abbrev pub against : Question → Table → Table
-against may_replace old = old
-against is_compatible other = dual other
+against MayReplace old = old
+against IsCompatible other = dual other
 
 module _ (q : Question) (new_text old_text : List ℕ) (before after : Areas) where
   -- The line for two texts, with what the areas that are lent for the verdict hold before and after it: "The first text's refusal goes
   -- first." A table goes with its text as its name bytes.
   pub data Answers : List ℕ → Type 0 where
-    first_refused : {n p : ℕ} → Reads new_text (refused n p) → after ≡ before → Answers (refused_line n 1 p)
+    first_refused :
+        {k : RefusalKind} {p : ℕ} → Reads new_text (refused k p) → after ≡ before → Answers (refused_line (number k) 1 p)
     second_refused :
-        {new : Table} {n p : ℕ} → Reads new_text (made new) → Reads old_text (refused n p) → after ≡ before → Answers (refused_line n 2 p)
+        {new : Table} {k : RefusalKind} {p : ℕ} → Reads new_text (made new) → Reads old_text (refused k p) → after ≡ before
+        → Answers (refused_line (number k) 2 p)
     yes :
         {new old : Table} {count : ℕ} → Reads new_text (made new) → Reads old_text (made old)
-        → Replaces new new_text (against q old) old_text before after (verdict.Yes count) → Answers (yes_line count)
+        → Replaces new new_text (against q old) old_text before after (Ok (verdict.Yes count)) → Answers (yes_line count)
     no :
         {new old : Table} {found : Found} → Reads new_text (made new) → Reads old_text (made old)
-        → Replaces new new_text (against q old) old_text before after (verdict.No found)
+        → Replaces new new_text (against q old) old_text before after (Ok (verdict.No found))
         → Answers (no_line found (take found.steps after.path))
 
 -- The line printed for an input, whatever areas the program lends for the verdict.

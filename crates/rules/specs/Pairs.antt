@@ -1,7 +1,8 @@
 -- Document 01, "May replace, and compatible": two nodes beside each other, when they are a mismatch, and the steps from them.
 -- x is the left node, with its name bytes xs; y is the right one, with ys.
 -- Assumes nothing.
-use Rattle.std.specs.Prelude.{Bool, true, false, not, List, ◌≡◌, ℕ, zero, suc, eqb, leb, ltb}
+use Rattle.std.specs.Prelude.{Bool, true, false, not, List, ◌≡◌, ℕ, zero, suc, eqb, leb, ltb, Some, None}
+use Rattle.std.specs.Prelude as rust
 use Rattle.std.proofs.Math.Option.{Option, none, some}
 use Rattle.rules.specs.Basics.{same, first}
 use Rattle.rules.specs.Tables.{node_at, item_count, item_at, label_count, label_at, spelling_at, continuation}
@@ -16,35 +17,36 @@ use Rattle.table.specs.declared.Table.{Table}
 use Rattle.table.specs.declared.answers.Mismatch.{Mismatch}
 use Rattle.table.specs.declared.answers.Mismatch.TheVariants as mismatch
 
--- the number and the detail of each case; "Details count from 0 and are 0 for 20 and 21". Where nothing is wrong both are 0.
-abbrev pub reason : Mismatch → ℕ
-reason mismatch.Nothing = 0
-reason mismatch.Kinds = 20
-reason mismatch.Counts = 21
-reason (mismatch.Item i) = 22
-reason (mismatch.Label i) = 23
+-- what is wrong with two nodes, or that nothing is
+abbrev pub Wrong : Type 0
+Wrong = rust.Option Mismatch
 
-abbrev pub detail : Mismatch → ℕ
-detail mismatch.Nothing = 0
-detail mismatch.Kinds = 0
-detail mismatch.Counts = 0
-detail (mismatch.Item i) = i
-detail (mismatch.Label i) = i
+-- the number and the detail of each case; "Details count from 0 and are 0 for 20 and 21". Where nothing is wrong both are 0.
+abbrev pub reason : Wrong → ℕ
+reason None = 0
+reason (Some mismatch.Kinds) = 20
+reason (Some mismatch.Counts) = 21
+reason (Some (mismatch.Item i)) = 22
+reason (Some (mismatch.Label i)) = 23
+
+abbrev pub detail : Wrong → ℕ
+detail None = 0
+detail (Some mismatch.Kinds) = 0
+detail (Some mismatch.Counts) = 0
+detail (Some (mismatch.Item i)) = i
+detail (Some (mismatch.Label i)) = i
 
 -- "first reason that applies"
-abbrev pub or_else : Mismatch → Mismatch → Mismatch
-or_else mismatch.Nothing m = m
-or_else mismatch.Kinds m = mismatch.Kinds
-or_else mismatch.Counts m = mismatch.Counts
-or_else (mismatch.Item i) m = mismatch.Item i
-or_else (mismatch.Label i) m = mismatch.Label i
+abbrev pub or_else : Wrong → Wrong → Wrong
+or_else None m = m
+or_else (Some w) m = Some w
 
-abbrev pub unless : Bool → Mismatch → Mismatch
-unless true m = mismatch.Nothing
-unless false m = m
+abbrev pub unless : Bool → Mismatch → Wrong
+unless true w = None
+unless false w = Some w
 
 -- what is wrong at the first position below n that passes the test; nothing where none does
-abbrev pub at_first : (ℕ → Mismatch) → ℕ → (ℕ → Bool) → Mismatch
+abbrev pub at_first : (ℕ → Mismatch) → ℕ → (ℕ → Bool) → Wrong
 at_first m n p = unless (leb n (first n p)) (m (first n p))
 
 -- `end`, `?`, `!`, `&`, `+`
@@ -63,11 +65,11 @@ sort_number Boolean = 2
 sort_number Void = 3
 
 -- "20: kinds differ"
-unfoldable pub kinds_differ : Node → Node → Mismatch
+unfoldable pub kinds_differ : Node → Node → Wrong
 kinds_differ x y = unless (eqb (kind_number x.kind) (kind_number y.kind)) mismatch.Kinds
 
 -- "21: item counts differ"
-unfoldable pub counts_differ : Node → Node → Mismatch
+unfoldable pub counts_differ : Node → Node → Wrong
 counts_differ x y = unless (eqb (item_count x) (item_count y)) mismatch.Counts
 
 -- "22: an item differs: sort against session, or two different sorts; detail is the first such position"
@@ -77,7 +79,7 @@ items_agree (OfSort a) (Session j) = false
 items_agree (Session i) (OfSort b) = false
 items_agree (Session i) (Session j) = true
 
-unfoldable pub item_differs : Node → Node → Mismatch
+unfoldable pub item_differs : Node → Node → Wrong
 item_differs x y = at_first mismatch.Item (item_count x) (λ i. not (items_agree (item_at x i) (item_at y i)))
 
 -- "by label and not by position": where the label w stands among those of y; their count where it is not there
@@ -89,7 +91,7 @@ unfoldable pub lacks : Node → List ℕ → Node → List ℕ → ℕ → Bool
 lacks x xs y ys i = leb (label_count y) (position (spelling_at x xs i) y ys)
 
 -- "23: a chosen label is missing", x being the chooser; "Detail is the first missing one's position in the chooser's list."
-unfoldable pub label_lacking : Node → List ℕ → Node → List ℕ → Mismatch
+unfoldable pub label_lacking : Node → List ℕ → Node → List ℕ → Wrong
 label_lacking x xs y ys = at_first mismatch.Label (label_count x) (lacks x xs y ys)
 
 -- "For `+` the right lists the choices and the left must have them; for `&` the left lists and the right must have them.": what holds if
@@ -101,7 +103,7 @@ by_chooser Send left right = right
 by_chooser Branch left right = left
 by_chooser Choose left right = right
 
-unfoldable pub mismatch_of : Node → List ℕ → Node → List ℕ → Mismatch
+unfoldable pub mismatch_of : Node → List ℕ → Node → List ℕ → Wrong
 mismatch_of x xs y ys =
     or_else (kinds_differ x y)
     (or_else (counts_differ x y)
@@ -199,7 +201,7 @@ module _ (new : Table) (new_names : List ℕ) (old : Table) (old_names : List �
       f (left_in p.turn (node_at new p.new) (node_at old p.old)) (left_in p.turn new_names old_names)
       (right_in p.turn (node_at new p.new) (node_at old p.old)) (right_in p.turn new_names old_names)
 
-  unfoldable pub mismatch_at : Pair → Mismatch
+  unfoldable pub mismatch_at : Pair → Wrong
   mismatch_at p = beside mismatch_of p
 
   -- where step s of a pair leads
@@ -208,9 +210,9 @@ module _ (new : Table) (new_names : List ℕ) (old : Table) (old_names : List �
 
   -- "It is a mismatch"
   abbrev pub IsMismatch : Pair → Type 0
-  IsMismatch p = mismatch_at p ≡ mismatch.Nothing → ⊥
+  IsMismatch p = mismatch_at p ≡ None → ⊥
 
   -- "From a pair without mismatch the steps are": step s leads from p to q
   pub record Step (p : Pair) (s : ℕ) (q : Pair) : Type 0 where
-    pub fits : mismatch_at p ≡ mismatch.Nothing
+    pub fits : mismatch_at p ≡ None
     pub leads : step_at p s ≡ some q

@@ -7,6 +7,8 @@ use Rattle.rules.specs.Words.{word_most}
 use Rattle.rules.specs.Tokens.{Token, Symbol, word, reserved_word, one_byte, symbol, tokens}
 use Rattle.rules.specs.Notation.{Ty, ended, name, message, choice, Items, no_items, sort, session, Labels, last_label, label, Text, last_definition, definition, end_position, Writes}
 use Rattle.rules.specs.Numbers.{text_most, definitions_most, text_nodes_most, labels_most, items_most, brackets_most}
+use Rattle.table.specs.declared.answers.RefusalKind.{RefusalKind}
+use Rattle.table.specs.declared.answers.RefusalKind.TheVariants as kind
 use Rattle.rules.specs.Numbering.{to_name, to_nothing, definition_leads, follow}
 
 -- the column "No."
@@ -45,6 +47,20 @@ area_too_short = 11
 
 abbrev pub dual_too_large : ℕ
 dual_too_large = 13
+
+abbrev pub number : RefusalKind → ℕ
+number kind.TextTooLong = text_too_long
+number kind.Unexpected = unexpected
+number kind.WordTooLong = word_too_long
+number kind.BracketTooMany = bracket_too_many
+number kind.OneTooMany = one_too_many
+number kind.LabelTwice = label_twice
+number kind.NameTwice = name_twice
+number kind.NeverDefined = never_defined
+number kind.LeadsRound = leads_round
+number kind.NotWellFormed = not_well_formed
+number kind.AreaTooShort = area_too_short
+number kind.DualTooLarge = dual_too_large
 
 -- 2. "no text of the notation could have there (all other refusals left aside)": some text has these tokens first, at these places
 pub record Could (ts : List Token) : Type 0 where

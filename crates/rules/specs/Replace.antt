@@ -1,16 +1,15 @@
 -- Document 01, "May replace, and compatible": closed sets of pairs.
 -- Assumes nothing.
-use Rattle.std.specs.Prelude.{Bool, true, List, ◌≡◌, ℕ}
+use Rattle.std.specs.Prelude.{Bool, true, List, ◌≡◌, ℕ, None}
 use Rattle.rules.specs.Dual.{dual}
 use Rattle.rules.specs.Pairs.{Pair, Step, starts, mismatch_at}
 use Rattle.table.specs.declared.Table.{Table}
-use Rattle.table.specs.declared.answers.Mismatch.TheVariants.{Nothing}
 
 module _ (new : Table) (new_names : List ℕ) (old : Table) (old_names : List ℕ) where
   -- a set of pairs that "holds the starts and, with each pair, has no mismatch and all its steps"
   pub record Closed (set : Pair → Bool) : Type 0 where
     pub holds_starts : set (starts new old) ≡ true
-    pub no_mismatch : (p : Pair) → set p ≡ true → mismatch_at new new_names old old_names p ≡ Nothing
+    pub no_mismatch : (p : Pair) → set p ≡ true → mismatch_at new new_names old old_names p ≡ None
     pub all_steps : (p q : Pair) (s : ℕ) → set p ≡ true → Step new new_names old old_names p s q → set q ≡ true
 
   -- "New may replace old if some set of pairs holds the starts and, with each pair, has no mismatch and all its steps."

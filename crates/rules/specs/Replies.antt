@@ -1,11 +1,11 @@
 -- What each public function answers, and what each lent area then holds: one definition for each promise, for every input.
 -- Assumes nothing.
-use Rattle.std.specs.Prelude.{Bool, true, false, ◌&&◌, List, [], ◌∷◌, ◌++◌, ◌≡◌, ℕ, suc, ◌<◌, ◌≤◌, ◌+◌, ◌*◌, eqb, ltb, length, get_or, take, drop, replicate}
+use Rattle.std.specs.Prelude.{Bool, true, false, ◌&&◌, List, [], ◌∷◌, ◌++◌, ◌≡◌, ℕ, suc, ◌<◌, ◌≤◌, ◌+◌, ◌*◌, eqb, ltb, length, get_or, take, drop, replicate, Result, Ok, Err, Some}
 use Rattle.std.proofs.Math.Option.{Option, none, some}
 use Rattle.rules.specs.Numbers.{table_nodes_most}
 use Rattle.rules.specs.Notation.{Text, Writes}
 use Rattle.rules.specs.Numbering.{table_of}
-use Rattle.rules.specs.Refusals.{Fault, GoesFirst, not_well_formed, area_too_short, dual_too_large}
+use Rattle.rules.specs.Refusals.{number, Fault, GoesFirst}
 use Rattle.rules.specs.Tables.{blank_table, node_at, label_count, spelling_at, is_choice}
 use Rattle.rules.specs.Formed.{well_formed}
 use Rattle.rules.specs.Dual.{dual, dual_count, hands_over}
@@ -15,7 +15,9 @@ use Rattle.rules.specs.Replace.{Smallest}
 use Rattle.table.specs.declared.Kind.{Kind}
 use Rattle.table.specs.declared.Node.{Node}
 use Rattle.table.specs.declared.Table.{Table}
-use Rattle.table.specs.declared.answers.Answer.TheVariants as answer
+use Rattle.table.specs.declared.answers.RefusalKind.{RefusalKind}
+use Rattle.table.specs.declared.answers.RefusalKind.TheVariants as kind
+use Rattle.table.specs.declared.answers.Refusal.{Refusal}
 use Rattle.table.specs.declared.answers.Made.{Made}
 use Rattle.table.specs.declared.answers.Mismatch.TheVariants as mismatch
 use Rattle.table.specs.declared.answers.Found.{Found}
@@ -24,16 +26,21 @@ use Rattle.table.specs.declared.answers.Verdict.TheVariants as verdict
 
 -- "The table is the answer itself"
 abbrev pub made : Table → Made
-made t = record { table = t; answer = answer.Accepted }
+made t = record { table = t; answer = Ok tt }
 
 -- "A refusal returns number and place"; "Beside a refusal the table has no nodes and start 0."
-abbrev pub refused : ℕ → ℕ → Made
-refused n p = record { table = blank_table; answer = answer.Refused n p }
+abbrev pub refusal : RefusalKind → ℕ → Refusal
+refusal k p = record { kind = k; place = p }
+
+abbrev pub refused : RefusalKind → ℕ → Made
+refused k p = record { table = blank_table; answer = Err (refusal k p) }
 
 -- The reply of reading the text s: the table of its tree if no refusal of the list applies, else the refusal that goes first.
 pub data Reads (s : List ℕ) : Made → Type 0 where
   accepts : {x : Text} → Writes s x → ((n p : ℕ) → Fault s n p → ⊥) → Reads s (made (table_of x))
-  refuses : {n p : ℕ} → Fault s n p → ((m q : ℕ) → Fault s m q → GoesFirst m q n p → ⊥) → Reads s (refused n p)
+  refuses :
+      {k : RefusalKind} {p : ℕ} → Fault s (number k) p → ((m q : ℕ) → Fault s m q → GoesFirst m q (number k) p → ⊥)
+      → Reads s (refused k p)
 
 -- The reply of "well formed" is `well_formed` itself.
 
@@ -41,10 +48,10 @@ pub data Reads (s : List ℕ) : Made → Type 0 where
 unfoldable pub dual_reply : Table → List ℕ → Made
 dual_reply t names =
     elim (well_formed t names) [
-      | false ↦ refused not_well_formed 1
+      | false ↦ refused kind.NotWellFormed 1
       | true ↦
           elim (ltb table_nodes_most (dual_count (hands_over t) t.count)) [
-            | true ↦ refused dual_too_large t.count
+            | true ↦ refused kind.DualTooLarge t.count
             | false ↦ made (dual t)
           ]
     ]
@@ -78,6 +85,10 @@ count_marks (b ∷ s) = elim (eqb b 1) [ true ↦ suc (count_marks s) | false �
 -- zeros over the first k of an area; "what is beyond stays"
 abbrev pub cleared : ℕ → List ℕ → List ℕ
 cleared k a = replicate k 0 ++ drop k a
+
+-- what a verdict answers: yes or no, or a refusal
+abbrev pub Answer : Type 0
+Answer = Result Verdict Refusal
 
 -- no refusal applies: both tables are well formed, and every area is long enough
 pub record NoRefusal (new : Table) (new_names : List ℕ) (old : Table) (old_names : List ℕ) (before : Areas) : Type 0 where
@@ -126,32 +137,32 @@ module _ (new : Table) (new_names : List ℕ) (old : Table) (old_names : List �
 
   -- The reply of a verdict: "For a verdict: 10 for the first table, 10 for the second, then 11 for the least area. Each is given exactly
   -- then. A refusal returns number and place and writes nothing."
-  pub data Replaces : Verdict → Type 0 where
-    new_not_formed : well_formed new new_names ≡ false → after ≡ before → Replaces (verdict.Refused not_well_formed 1)
+  pub data Replaces : Answer → Type 0 where
+    new_not_formed : well_formed new new_names ≡ false → after ≡ before → Replaces (Err (refusal kind.NotWellFormed 1))
     old_not_formed :
         well_formed new new_names ≡ true → well_formed old old_names ≡ false → after ≡ before
-        → Replaces (verdict.Refused not_well_formed 2)
+        → Replaces (Err (refusal kind.NotWellFormed 2))
     marks_short :
         well_formed new new_names ≡ true → well_formed old old_names ≡ true → length before.marks < pair_count new old → after ≡ before
-        → Replaces (verdict.Refused area_too_short 1)
+        → Replaces (Err (refusal kind.AreaTooShort 1))
     path_short :
         well_formed new new_names ≡ true → well_formed old old_names ≡ true → pair_count new old ≤ length before.marks
-        → length before.path < pair_count new old → after ≡ before → Replaces (verdict.Refused area_too_short 2)
+        → length before.path < pair_count new old → after ≡ before → Replaces (Err (refusal kind.AreaTooShort 2))
     scratch_short :
         well_formed new new_names ≡ true → well_formed old old_names ≡ true → pair_count new old ≤ length before.marks
         → pair_count new old ≤ length before.path → length before.scratch < scratch_size new old → after ≡ before
-        → Replaces (verdict.Refused area_too_short 3)
-    says_yes : {count : ℕ} → NoRefusal new new_names old old_names before → SaysYes count → Replaces (verdict.Yes count)
-    says_no : {found : Found} → NoRefusal new new_names old old_names before → SaysNo found → Replaces (verdict.No found)
+        → Replaces (Err (refusal kind.AreaTooShort 3))
+    says_yes : {count : ℕ} → NoRefusal new new_names old old_names before → SaysYes count → Replaces (Ok (verdict.Yes count))
+    says_no : {found : Found} → NoRefusal new new_names old old_names before → SaysNo found → Replaces (Ok (verdict.No found))
 
 -- "New is compatible with other .. is asked in two calls, the dual and then the verdict, each with its own refusals; marks, nodes and
 -- runs are then those of new and the dual." The first call's reply, and the second's where it is made.
-pub data AsksCompatible (new : Table) (new_names : List ℕ) (other : Table) (other_names : List ℕ) (before after : Areas) : Made → Option Verdict → Type 0 where
+pub data AsksCompatible (new : Table) (new_names : List ℕ) (other : Table) (other_names : List ℕ) (before after : Areas) : Made → Option Answer → Type 0 where
   no_dual :
-      {n p : ℕ} → dual_reply other other_names ≡ refused n p → after ≡ before
-      → AsksCompatible new new_names other other_names before after (refused n p) none
+      {k : RefusalKind} {p : ℕ} → dual_reply other other_names ≡ refused k p → after ≡ before
+      → AsksCompatible new new_names other other_names before after (refused k p) none
   then_verdict :
-      {t : Table} {v : Verdict} → dual_reply other other_names ≡ made t → Replaces new new_names t other_names before after v
+      {t : Table} {v : Answer} → dual_reply other other_names ≡ made t → Replaces new new_names t other_names before after v
       → AsksCompatible new new_names other other_names before after (made t) (some v)
 
 -- The missing label: of what is the new table's and what is the old one's, what is the chooser's, "by kind and turn".
@@ -172,16 +183,16 @@ chooser_names new new_names old_names f = of_chooser (kind_found new f) f.turn n
 -- choices of one kind and the detail is a position in the chooser's list."
 unfoldable pub found_fits : Table → List ℕ → Table → List ℕ → Found → Bool
 found_fits new new_names old old_names f =
-    eqb f.reason (reason (mismatch.Label f.detail)) && well_formed new new_names && well_formed old old_names
+    eqb f.reason (reason (Some (mismatch.Label f.detail))) && well_formed new new_names && well_formed old old_names
     && ltb f.new new.count && ltb f.old old.count && ltb f.turn turns_most && is_choice (kind_found new f)
     && eqb (kind_number (kind_found new f)) (kind_number (node_at old f.old).kind)
     && ltb f.detail (label_count (chooser new old f))
 
 -- "the missing label is handed back as a part of the chooser's name bytes .. If it does not fit, the part is empty."
-unfoldable pub missing_label : Table → List ℕ → Table → List ℕ → Verdict → List ℕ
-missing_label new new_names old old_names (verdict.Yes c) = []
-missing_label new new_names old old_names (verdict.Refused n p) = []
-missing_label new new_names old old_names (verdict.No f) =
+unfoldable pub missing_label : {E : Type 0} → Table → List ℕ → Table → List ℕ → Result Verdict E → List ℕ
+missing_label new new_names old old_names (Ok (verdict.Yes c)) = []
+missing_label new new_names old old_names (Err e) = []
+missing_label new new_names old old_names (Ok (verdict.No f)) =
     elim (found_fits new new_names old old_names f) [
       | true ↦ spelling_at (chooser new old f) (chooser_names new new_names old_names f) f.detail
       | false ↦ []

@@ -1,14 +1,14 @@
 -- The reply of the functions that write the printed line into a lent area. Document 01 lends no area for the line; that there is one, the
 -- fourth, and how long it is to be, is ours. The other three are those of the verdict.
 -- Assumes nothing.
-use Rattle.std.specs.Prelude.{List, ◌++◌, ◌≡◌, ℕ, ◌<◌, ◌≤◌, ◌+◌, ◌*◌, length, drop}
+use Rattle.std.specs.Prelude.{List, ◌++◌, ◌≡◌, ℕ, ◌<◌, ◌≤◌, ◌+◌, ◌*◌, length, drop, Result, Ok, Err}
 use Rattle.rules.specs.Pairs.{turns_most}
-use Rattle.rules.specs.Refusals.{area_too_short}
-use Rattle.rules.specs.Replies.{Areas, Reads}
-use Rattle.rules.specs.Line.{Question, against, Answers, Prints}
+use Rattle.rules.specs.Replies.{refusal, Areas, Reads}
+use Rattle.rules.specs.Line.{against, Answers, Prints}
 use Rattle.table.specs.declared.answers.Made.{Made}
-use Rattle.table.specs.declared.answers.Written.{Written}
-use Rattle.table.specs.declared.answers.Written.TheVariants.{Line, Refused}
+use Rattle.table.specs.declared.answers.Question.{Question}
+use Rattle.table.specs.declared.answers.Refusal.{Refusal}
+use Rattle.table.specs.declared.answers.RefusalKind.TheVariants as kind
 
 -- what the four lent areas hold: marks, path and scratch, and the line
 pub record LineAreas : Type 0 where
@@ -62,14 +62,14 @@ pub data LeastShort (n m : ℕ) (k : Lengths) : ℕ → Type 0 where
       → LeastShort n m k 4
 
 -- The reply: 11 for the least area, where nothing is written; else the line stands at the front of its area, and what is beyond stays.
-pub data WritesLine (q : Question) (new_text old_text : List ℕ) (before after : LineAreas) : Written → Type 0 where
+pub data WritesLine (q : Question) (new_text old_text : List ℕ) (before after : LineAreas) : Result ℕ Refusal → Type 0 where
   refuses :
       {n m p : ℕ} → Counts q new_text old_text n m → LeastShort n m (lengths before) p → after ≡ before
-      → WritesLine q new_text old_text before after (Refused area_too_short p)
+      → WritesLine q new_text old_text before after (Err (refusal kind.AreaTooShort p))
   writes :
       {n m : ℕ} {l : List ℕ} → Counts q new_text old_text n m → AllLong n m (lengths before)
       → Answers q new_text old_text before.lent after.lent l → after.line ≡ l ++ drop (length l) before.line
-      → WritesLine q new_text old_text before after (Line (length l))
+      → WritesLine q new_text old_text before after (Ok (length l))
 
 -- The reply of what lends its own marks, path and scratch: for an input the area then begins with the printed line, of r bytes, and what
 -- is beyond stays.

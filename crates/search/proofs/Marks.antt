@@ -1,10 +1,14 @@
 -- Marks: how many there are, what one mark more changes of that, and marks as they are left behind. Each is by induction on the list.
 -- Assumes nothing.
+use borrow.Author.Tests.{ne_eqb}
+use mathlib.Core.Bool.{not}
 use mathlib.Core.List.{List, [], ◌∷◌, map}
 use mathlib.Core.Path.{◌≡◌, refl}
 use Prim.Native.Nat.{ℕ, zero, suc, ◌+◌, ◌<◌, ◌≤◌}
+use mir.Val.{bool_byte}
 use native.Mathlib.Numerals.{add-one}
 use native.Mathlib.Omega.{arith}
+use lib.Dec.{eqb}
 use lib.ListN.{length, get_or, set, replicate, length-map, get_or-map}
 use Rattle.rules.specs.Replies.{count_marks}
 use Rattle.search.specs.Queue.{settled, count_marked}
@@ -36,9 +40,9 @@ count_none zero = refl
 count_none (suc n) = omega (arith, count_none n)
 
 -- a mark that is not 0 is left as 1
-pub settled_one : (m : ℕ) → (m ≡ 0 → ⊥) → 1 ≡ settled m
-settled_one zero ne = absurd (ne refl)
-settled_one (suc m) ne = refl
+pub settled_byte : (m : ℕ) → bool_byte (not (eqb m 0)) ≡ settled m
+settled_byte zero = refl
+settled_byte (suc m) = rw (ne_eqb (suc m) 0 (omega arith)) refl
 
 pub settled_at : (i : ℕ) (ms : List ℕ) → get_or (map settled ms) i 0 ≡ settled (get_or ms i 0)
 settled_at i ms = get_or-map settled ms i 0

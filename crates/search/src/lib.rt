@@ -7,46 +7,19 @@
 ghost use Rattle.std.specs.Prelude.{◌≡◌, ◌++◌, map, ◌+◌, ◌-◌, ◌≤◌, ◌<◌, length, get_or, set, drop, replicate};
 ghost use Rattle.search.specs.Queue.{Queue, Entry, begun, visited, run_at, settled, RunLeft};
 
-pub fn wide(x: u16) -> usize
-    ensures { result ≡ x }
+fn clear(marks: &mut [u8], scratch: &mut [u16])
+    ensures { (marks.new ≡ replicate (length marks.old) 0) × (scratch.new ≡ replicate (length scratch.old) 0) }
 {
-    x as usize
+    marks.fill(0);
+    scratch.fill(0);
 }
 
-fn clear_marks(marks: &mut [u8])
-    ensures { marks.new ≡ replicate (length marks.old) 0 }
-{
-    let mut at = 0;
-    while at < marks.len() {
-        marks[at] = 0;
-        at += 1;
-    }
-}
-
-fn clear_numbers(s: &mut [u16])
-    ensures { s.new ≡ replicate (length s.old) 0 }
-{
-    let mut i = 0;
-    while i < s.len() {
-        s[i] = 0;
-        i += 1;
-    }
-}
-
-// A mark as it is left behind: 1 where the place was reached.
-fn settled(mark: u8) -> u8
-    ensures { result ≡ settled mark }
-{
-    if mark == 0 { 0 } else { 1 }
-}
-
+// The marks as they are left behind: 1 where the place was reached.
 fn settle(marks: &mut [u8])
     ensures { marks.new ≡ map settled marks.old }
 {
-    let mut i = 0;
-    while i < marks.len() {
-        marks[i] = settled(marks[i]);
-        i += 1;
+    for mark in marks.iter_mut() {
+        *mark = u8::from(*mark != 0);
     }
 }
 
@@ -55,13 +28,13 @@ pub fn begin(size: usize, start: usize, marks: &mut [u8], scratch: &mut [u16])
     requires { (start < size) × (size ≤ 32768) × (length marks.old ≡ size) × (length scratch.old ≡ size + size) }
     ensures { record { marks = marks.new; scratch = scratch.new; tail = 1 } ≡ begun size start }
 {
-    clear_marks(marks);
-    clear_numbers(scratch);
+    clear(marks, scratch);
     marks[start] = 1;
     scratch[0] = start as u16;
 }
 
 // The place `to`, where step `step` of entry `at` leads, is put at the queue's end, unless it is marked. Answers the queue's new end.
+// Not a struct of the queue: the areas are lent, and with them in a struct each contract would have to say that they are the same ones afterwards.
 pub fn visit(
     size: usize,
     at: usize,
@@ -77,6 +50,8 @@ pub fn visit(
     if marks[to] != 0 {
         return tail;
     }
+    // While a place is unmarked there is room for one entry more.
+    prove!(tail < size);
     marks[to] = (step + 1) as u8;
     scratch[tail] = to as u16;
     scratch[size + tail] = at as u16;
@@ -90,8 +65,9 @@ fn depth(size: usize, at: usize, marks: &[u8], scratch: &[u16]) -> usize
 {
     let mut i = at;
     let mut k = 0;
+    // Not a `for`: the next entry is the number that scratch holds.
     while 0 < i {
-        i = wide(scratch[size + i]);
+        i = usize::from(scratch[size + i]);
         k += 1;
     }
     k
@@ -102,15 +78,7 @@ fn step_into(marks: &[u8], at: usize) -> u16
     requires { (at < length marks.now) × (0 < get_or marks.now at 0) }
     ensures { result ≡ get_or marks.now at 0 - 1 }
 {
-    let m = marks[at];
-    (m - 1) as u16
-}
-
-fn write_step(path: &mut [u16], at: usize, step: u16)
-    requires { at < length path.old }
-    ensures { path.new ≡ set path.old at step }
-{
-    path[at] = step;
+    u16::from(marks[at] - 1)
 }
 
 // The `steps` steps that lead to entry `at`, in their order; what is beyond them stays.
@@ -119,12 +87,9 @@ fn write_path(size: usize, at: usize, steps: usize, marks: &[u8], scratch: &[u16
     ensures { path.new ≡ run_at size marks.now scratch.now at ++ drop steps path.old }
 {
     let mut i = at;
-    let mut j = steps;
-    while 0 < j {
-        j -= 1;
-        let step = step_into(marks, wide(scratch[i]));
-        write_step(path, j, step);
-        i = wide(scratch[size + i]);
+    for j in (0..steps).rev() {
+        path[j] = step_into(marks, usize::from(scratch[i]));
+        i = usize::from(scratch[size + i]);
     }
 }
 
@@ -133,7 +98,7 @@ pub fn leave_marks(marks: &mut [u8], scratch: &mut [u16])
     ensures { (marks.new ≡ map settled marks.old) × (scratch.new ≡ replicate (length scratch.old) 0) }
 {
     settle(marks);
-    clear_numbers(scratch);
+    scratch.fill(0);
 }
 
 // Something was wrong at entry `at`: the steps that lead there are left in the path, and marks and scratch as 0. Answers how many they are.
@@ -149,7 +114,6 @@ pub fn leave_run(
 {
     let steps = depth(size, at, marks, scratch);
     write_path(size, at, steps, marks, scratch, path);
-    clear_marks(marks);
-    clear_numbers(scratch);
+    clear(marks, scratch);
     steps
 }

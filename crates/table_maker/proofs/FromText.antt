@@ -1,6 +1,6 @@
 -- What is made from the numbers of a text that has been read, and whose names have been followed, is the text's table.
 -- Assumes nothing.
-use borrow.Author.Tests.{eq-eqb, ne_eqb, lt-ltb, le-ltb}
+use borrow.Author.Tests.{lt-ltb, le-ltb}
 use mathlib.Core.List.{List, []}
 use mathlib.Core.Option.{some}
 use mathlib.Core.Path.{◌≡◌, refl, ap, ◌∙◌}
@@ -12,7 +12,6 @@ use Rattle.rules.specs.Basics.{listed}
 use Rattle.rules.specs.Tokens.{Token}
 use Rattle.rules.specs.Notation.{Way, into, out, Ty, ended, name, message, choice, Items, no_items, sort, session, Labels, last_label, label, Text, last_definition, definition}
 use Rattle.rules.specs.Numbers.{text_nodes_most}
-use Rattle.rules.specs.Tables.{blank_node}
 use Rattle.rules.specs.Numbering.{behind, behind_items, behind_labels, behind_text, to_node, definition_count, follow, link, message_kind, choice_kind, slots, entry, entries, message_node, choice_node, nodes, nodes_items, nodes_labels, nodes_text, table_of}
 use Rattle.rules.specs.Refusals.{uses, uses_items, uses_labels, used_names}
 use Rattle.rules.proofs.Links.{behind_more, behind_items_more, behind_labels_more, behind_text_more}
@@ -22,8 +21,9 @@ use Rattle.table.specs.declared.Sort.{Sort}
 use Rattle.table.specs.declared.Sort.TheVariants.{String, Float, Boolean, Void}
 use Rattle.table.specs.declared.Item.TheVariants.{OfSort, Session}
 use Rattle.table.specs.declared.Node.{Node}
-use Rattle.table_maker.specs.Making.{sort_of, kind_of, kind_number, item_number, label_row, node_of, slot_from, label_from, message_from, choice_from, node_from, table_from}
+use Rattle.table_maker.specs.Making.{sort_of, kind_of, item_number, label_row, node_of, slot_from, label_from, message_from, choice_from, node_from, table_from}
 use Rattle.table_maker.proofs.Held.{held, held_behind}
+use Rattle.table_maker.proofs.KindNumbers.{from_end, from_message, from_choice}
 use Rattle.table_maker.proofs.Rows.{message_some, message_below, choice_above}
 use Rattle.table_maker.proofs.InOrder.{InOrder, none, one, then, in_order_all}
 use Rattle.table_maker.proofs.UsesInOrder.{UsesFrom, all_uses, past_type, past_items}
@@ -32,20 +32,6 @@ use Rattle.table_maker.proofs.UsesInOrder.{UsesFrom, all_uses, past_type, past_i
 node_link : (t : Text) (k : ℕ) → follow t (definition_count t) (to_node k) ≡ some k
 unfolding follow
 node_link t k = follow_more t 0 (definition_count t) (to_node k) k (omega arith) refl
-
--- a node, by its kind's number
-module _ (owners ends a : List ℕ) (k : ℕ) where
-  from_end : kind_number a k ≡ 0 → node_from owners ends a k ≡ blank_node
-  unfolding node_from
-  from_end e = rw (node_from, eq-eqb (kind_number a k) 0 e)
-
-  from_message : 0 < kind_number a k → kind_number a k < 3 → node_from owners ends a k ≡ message_from owners ends a k
-  unfolding node_from
-  from_message l m = rw (node_from, ne_eqb (kind_number a k) 0 (λ e. omega arith), lt-ltb (kind_number a k) 3 m)
-
-  from_choice : 3 ≤ kind_number a k → node_from owners ends a k ≡ choice_from owners ends a k
-  unfolding node_from
-  from_choice l = rw (node_from, ne_eqb (kind_number a k) 0 (λ e. omega arith), le-ltb (kind_number a k) 3 l)
 
 message_kind-made : (d : Way) → kind_of (message_number d) ≡ message_kind d
 unfolding kind_of

@@ -4,3 +4,4 @@ pub mod Rows
 pub mod InOrder
 pub mod UsesInOrder
 pub mod FromText
+pub mod KindNumbers

@@ -8,197 +8,155 @@ ghost use Rattle.flat.specs.Flat.{a_session};
 ghost use Rattle.table_maker.specs.Making.{sort_of, kind_of, node_of, slot_from, label_from, items_from, labels_from, message_from, choice_from, node_from, table_from, count_number};
 ghost use Rattle.table_maker.specs.Making.{links_end, Owned, ItemsOk, LabelOk, MessageOk, LabelsOk, RowOk, TableOk};
 
-use blanks::{BLANK_LABEL, BLANK_SLOT, blank_node};
+use blanks::filled;
 use flat::{A_SESSION, A_USE, COUNT, DEFINITIONS_MOST, GOES_ON, LIST, NODE_ROOM, ROW, TEXT_MOST};
 use table::{ITEMS_MOST, Item, Kind, LABELS_MOST, Label, NODES_MOST, Node, Slot, Sort, Table};
 
-// The node that a link leads to: the node of that number, or where the definition leads that the use of that number names.
-fn node_of(link: usize, owners: &[u8; TEXT_MOST], ends: &[u8; DEFINITIONS_MOST]) -> u8
-    requires { (link < links_end) × Owned owners.now }
-    ensures { result ≡ node_of owners.now ends.now link }
-{
-    if link < A_USE {
-        return link as u8;
-    }
-    let d = owners[link - A_USE] as usize;
-    ends[d]
-}
-
 // The sort of a number, and the kind of one.
+// No `From`: that the last one stands for every number behind it holds of what the readers write, and of no other numbers.
+#[tactic(auto, unfolding(crate::specs::Making::sort_of))]
 fn sort_of(k: u16) -> Sort
     ensures { result ≡ sort_of k }
 {
-    if k == 0 {
-        return Sort::String;
+    match k {
+        0 => Sort::String,
+        1 => Sort::Float,
+        2 => Sort::Boolean,
+        _ => Sort::Void,
     }
-    if k == 1 {
-        return Sort::Float;
-    }
-    if k == 2 {
-        return Sort::Boolean;
-    }
-    Sort::Void
 }
 
+#[tactic(auto, unfolding(crate::specs::Making::kind_of))]
 fn kind_of(k: u16) -> Kind
     ensures { result ≡ kind_of k }
 {
-    if k == 0 {
-        return Kind::End;
+    match k {
+        0 => Kind::End,
+        1 => Kind::Receive,
+        2 => Kind::Send,
+        3 => Kind::Branch,
+        _ => Kind::Choose,
     }
-    if k == 1 {
-        return Kind::Receive;
-    }
-    if k == 2 {
-        return Kind::Send;
-    }
-    if k == 3 {
-        return Kind::Branch;
-    }
-    Kind::Choose
 }
 
-// An item, from its number.
-fn slot_from(k: u16, owners: &[u8; TEXT_MOST], ends: &[u8; DEFINITIONS_MOST]) -> Slot
-    requires { (k < a_session + links_end) × Owned owners.now }
-    ensures { result ≡ slot_from owners.now ends.now k }
-{
-    if k < A_SESSION {
-        return Slot {
-            item: Item::OfSort(sort_of(k)),
+// The numbers that the readers wrote: those of the nodes, the definition that each use of a name has, and the node that each definition
+// leads to.
+#[derive(Clone, Copy)]
+struct Numbers<'a> {
+    nodes: &'a [u16; TEXT_MOST],
+    owners: &'a [u8; TEXT_MOST],
+    ends: &'a [u8; DEFINITIONS_MOST],
+    ghost owned: { Owned owners.now },
+}
+
+impl Numbers<'_> {
+    // The node that a link leads to: the node of that number, or where the definition leads that the use of that number names.
+    #[tactic(auto, unfolding(crate::specs::Making::node_of))]
+    fn node_of(&self, link: usize) -> u8
+        requires { link < links_end }
+        ensures { result ≡ node_of self.now.owners.now self.now.ends.now link }
+    {
+        if link < A_USE {
+            link as u8
+        } else {
+            self.ends[usize::from(self.owners[link - A_USE])]
+        }
+    }
+
+    // An item, from its number.
+    #[tactic(auto, unfolding(crate::specs::Making::slot_from))]
+    fn slot_from(&self, k: u16) -> Slot
+        requires { k < a_session + links_end }
+        ensures { result ≡ slot_from self.now.owners.now self.now.ends.now k }
+    {
+        let item = if k < A_SESSION {
+            Item::OfSort(sort_of(k))
+        } else {
+            Item::Session(self.node_of(usize::from(k - A_SESSION)))
         };
+        Slot { item }
     }
-    let to = node_of((k - A_SESSION) as usize, owners, ends);
-    Slot {
-        item: Item::Session(to),
-    }
-}
 
-// The first n items of node k.
-fn items_from(
-    nodes: &[u16; TEXT_MOST],
-    k: usize,
-    n: usize,
-    owners: &[u8; TEXT_MOST],
-    ends: &[u8; DEFINITIONS_MOST],
-) -> [Slot; ITEMS_MOST]
-    requires { (k < text_nodes_most) × ItemsOk nodes.now k n × Owned owners.now }
-    ensures { result ≡ items_from owners.now ends.now nodes.now k n }
-{
-    let mut all = [BLANK_SLOT; ITEMS_MOST];
-    let mut i = 0;
-    while i < n {
-        all[i] = slot_from(nodes[k * NODE_ROOM + LIST + i], owners, ends);
-        i += 1;
+    // The first n items of node k.
+    fn items_from(&self, k: usize, n: usize) -> [Slot; ITEMS_MOST]
+        requires { (k < text_nodes_most) × ItemsOk self.now.nodes.now k n }
+        ensures { result ≡ items_from self.now.owners.now self.now.ends.now self.now.nodes.now k n }
+    {
+        filled(
+            Slot::BLANK,
+            n,
+            |i| self.slot_from(self.nodes[k * NODE_ROOM + LIST + i]),
+        )
     }
-    all
-}
 
-// The label whose row begins at `at`.
-fn label_from(
-    nodes: &[u16; TEXT_MOST],
-    at: usize,
-    owners: &[u8; TEXT_MOST],
-    ends: &[u8; DEFINITIONS_MOST],
-) -> Label
-    requires { (at + 2 < text_most) × LabelOk nodes.now at × Owned owners.now }
-    ensures { result ≡ label_from owners.now ends.now nodes.now at }
-{
-    let to = node_of(nodes[at + 2] as usize, owners, ends);
-    Label {
-        at: nodes[at],
-        len: nodes[at + 1] as u8,
-        to,
+    // The label whose row begins at `at`.
+    fn label_from(&self, at: usize) -> Label
+        requires { (at + 2 < text_most) × LabelOk self.now.nodes.now at }
+        ensures { result ≡ label_from self.now.owners.now self.now.ends.now self.now.nodes.now at }
+    {
+        Label {
+            at: self.nodes[at],
+            len: self.nodes[at + 1] as u8,
+            to: self.node_of(usize::from(self.nodes[at + 2])),
+        }
     }
-}
 
-// The first n labels of node k.
-fn labels_from(
-    nodes: &[u16; TEXT_MOST],
-    k: usize,
-    n: usize,
-    owners: &[u8; TEXT_MOST],
-    ends: &[u8; DEFINITIONS_MOST],
-) -> [Label; LABELS_MOST]
-    requires { (k < text_nodes_most) × LabelsOk nodes.now k n × Owned owners.now }
-    ensures { result ≡ labels_from owners.now ends.now nodes.now k n }
-{
-    let mut all = [BLANK_LABEL; LABELS_MOST];
-    let mut i = 0;
-    while i < n {
-        all[i] = label_from(nodes, k * NODE_ROOM + LIST + i * ROW, owners, ends);
-        i += 1;
+    // The first n labels of node k.
+    fn labels_from(&self, k: usize, n: usize) -> [Label; LABELS_MOST]
+        requires { (k < text_nodes_most) × LabelsOk self.now.nodes.now k n }
+        ensures { result ≡ labels_from self.now.owners.now self.now.ends.now self.now.nodes.now k n }
+    {
+        filled(
+            Label::BLANK,
+            n,
+            |i| self.label_from(k * NODE_ROOM + LIST + i * ROW),
+        )
     }
-    all
-}
 
-// Node k, where it is a message, and where it is a choice.
-fn message_from(
-    nodes: &[u16; TEXT_MOST],
-    k: usize,
-    owners: &[u8; TEXT_MOST],
-    ends: &[u8; DEFINITIONS_MOST],
-) -> Node
-    requires { (k < text_nodes_most) × MessageOk nodes.now k × Owned owners.now }
-    ensures { result ≡ message_from owners.now ends.now nodes.now k }
-{
-    let kind = kind_of(nodes[k * NODE_ROOM]);
-    let n = nodes[k * NODE_ROOM + COUNT];
-    let items = items_from(nodes, k, n as usize, owners, ends);
-    let next = node_of(nodes[k * NODE_ROOM + GOES_ON] as usize, owners, ends);
-    Node {
-        kind,
-        items,
-        item_count: n as u8,
-        labels: [BLANK_LABEL; LABELS_MOST],
-        label_count: 0,
-        next,
+    // Node k, where it is a message, and where it is a choice.
+    fn message_from(&self, k: usize) -> Node
+        requires { (k < text_nodes_most) × MessageOk self.now.nodes.now k }
+        ensures { result ≡ message_from self.now.owners.now self.now.ends.now self.now.nodes.now k }
+    {
+        let n = self.nodes[k * NODE_ROOM + COUNT];
+        Node {
+            kind: kind_of(self.nodes[k * NODE_ROOM]),
+            items: self.items_from(k, n.into()),
+            item_count: n as u8,
+            next: self.node_of(usize::from(self.nodes[k * NODE_ROOM + GOES_ON])),
+            ..Node::BLANK
+        }
     }
-}
 
-fn choice_from(
-    nodes: &[u16; TEXT_MOST],
-    k: usize,
-    owners: &[u8; TEXT_MOST],
-    ends: &[u8; DEFINITIONS_MOST],
-) -> Node
-    requires { (k < text_nodes_most) × LabelsOk nodes.now k (count_number nodes.now k) × Owned owners.now }
-    ensures { result ≡ choice_from owners.now ends.now nodes.now k }
-{
-    let kind = kind_of(nodes[k * NODE_ROOM]);
-    let n = nodes[k * NODE_ROOM + COUNT];
-    let labels = labels_from(nodes, k, n as usize, owners, ends);
-    Node {
-        kind,
-        items: [BLANK_SLOT; ITEMS_MOST],
-        item_count: 0,
-        labels,
-        label_count: n as u8,
-        next: 0,
+    fn choice_from(&self, k: usize) -> Node
+        requires { (k < text_nodes_most) × LabelsOk self.now.nodes.now k (count_number self.now.nodes.now k) }
+        ensures { result ≡ choice_from self.now.owners.now self.now.ends.now self.now.nodes.now k }
+    {
+        let n = self.nodes[k * NODE_ROOM + COUNT];
+        Node {
+            kind: kind_of(self.nodes[k * NODE_ROOM]),
+            labels: self.labels_from(k, n.into()),
+            label_count: n as u8,
+            ..Node::BLANK
+        }
     }
-}
 
-// Node k.
-fn node_from(
-    nodes: &[u16; TEXT_MOST],
-    k: usize,
-    owners: &[u8; TEXT_MOST],
-    ends: &[u8; DEFINITIONS_MOST],
-) -> Node
-    requires { (k < text_nodes_most) × RowOk nodes.now k × Owned owners.now }
-    ensures { result ≡ node_from owners.now ends.now nodes.now k }
-{
-    let kind = nodes[k * NODE_ROOM];
-    if kind == 0 {
-        return blank_node();
+    // Node k.
+    fn node_from(&self, k: usize) -> Node
+        requires { (k < text_nodes_most) × RowOk self.now.nodes.now k }
+        ensures { result ≡ node_from self.now.owners.now self.now.ends.now self.now.nodes.now k }
+    {
+        match kind_of(self.nodes[k * NODE_ROOM]) {
+            Kind::End => Node::BLANK,
+            Kind::Receive | Kind::Send => self.message_from(k),
+            Kind::Branch | Kind::Choose => self.choice_from(k),
+        }
     }
-    if kind < 3 {
-        return message_from(nodes, k, owners, ends);
-    }
-    choice_from(nodes, k, owners, ends)
 }
 
 // The table of n nodes. "the first definition gives the start"
+// It takes what `Numbers` holds one by one: docs/PROMISES.md names it, and what it asks.
+#[tactic(auto, unfolding(crate::specs::Making::table_from))]
 pub fn table_from(
     nodes: &[u16; TEXT_MOST],
     n: usize,
@@ -208,14 +166,13 @@ pub fn table_from(
     requires { TableOk nodes.now owners.now n }
     ensures { result ≡ table_from owners.now ends.now nodes.now n }
 {
-    let mut all = [blank_node(); NODES_MOST];
-    let mut k = 0;
-    while k < n {
-        all[k] = node_from(nodes, k, owners, ends);
-        k += 1;
-    }
+    let numbers = Numbers {
+        nodes,
+        owners,
+        ends,
+    };
     Table {
-        nodes: all,
+        nodes: filled(Node::BLANK, n, |k| numbers.node_from(k)),
         count: n as u8,
         start: ends[0],
     }

@@ -6,13 +6,12 @@ use dual::dual;
 use reader::read;
 use replace::may_replace;
 use table::NODES_MOST;
-use table::answers::Verdict;
+use table::answers::{Refusal, Verdict};
 
 // The nodes of a text's table.
 #[unsafe(no_mangle)]
 pub extern "C" fn timed_read(text: &[u8]) -> usize {
-    let made = read(text);
-    made.table.count as usize
+    usize::from(read(text).table.count)
 }
 
 // The dual of a text's table, made so many times. What is answered is read from another of its nodes each time.
@@ -20,26 +19,21 @@ pub extern "C" fn timed_read(text: &[u8]) -> usize {
 pub extern "C" fn timed_dual(text: &[u8], times: usize) -> usize {
     let made = read(text);
     let mut seen = 0;
-    let mut i = 0;
-    while i < times {
-        let turned = dual(made.table, text);
-        let t = turned.table;
-        let x = t.nodes[i % NODES_MOST];
-        seen = seen % NODES_MOST + x.next as usize;
-        i += 1;
+    for i in 0..times {
+        let turned = dual(made.table, text).table;
+        let node = turned.nodes[i % NODES_MOST];
+        // Not `usize::from`: the check does not find from it that the sum fits.
+        seen = seen % NODES_MOST + node.next as usize;
     }
     seen
 }
 
 // The marks after a yes, or the steps after a no.
-fn counted(verdict: Verdict) -> usize {
-    match verdict {
-        Verdict::Yes(count) => count,
-        Verdict::No(found) => found.steps,
-        Verdict::Refused {
-            number: _,
-            place: _,
-        } => 0,
+fn counted(answer: Result<Verdict, Refusal>) -> usize {
+    match answer {
+        Ok(Verdict::Yes(count)) => count,
+        Ok(Verdict::No(found)) => found.steps,
+        Err(_) => 0,
     }
 }
 
@@ -56,11 +50,9 @@ pub extern "C" fn timed_verdict(
     let first = read(new);
     let second = read(old);
     let mut count = 0;
-    let mut i = 0;
-    while i < times {
-        let verdict = may_replace(first.table, new, second.table, old, marks, path, scratch);
-        count = counted(verdict);
-        i += 1;
+    for _ in 0..times {
+        let answer = may_replace(first.table, new, second.table, old, marks, path, scratch);
+        count = counted(answer);
     }
     count
 }

@@ -16,21 +16,22 @@ use Rattle.rules.specs.Words.{word_most}
 use Rattle.rules.specs.Tokens.{Token, Symbol, word, reserved_word, one_byte, symbol}
 use Rattle.rules.specs.Notation.{ended, name, end_position}
 use Rattle.rules.specs.Numbers.{text_most, text_nodes_most}
-use Rattle.rules.specs.Refusals.{Begins, nothing_new, one_of, entries_after, names_after, unexpected, one_too_many}
+use Rattle.rules.specs.Refusals.{Begins, nothing_new, one_of, entries_after, names_after, one_too_many}
 use Rattle.rules.specs.computed.Reading.{token_fault, lowest}
+use Rattle.rules.specs.Replies.{refusal}
 use Rattle.rules.proofs.Machine.{a_type, Stack, on, stuck, Row, ◌⇒◌, look, type_rows, step}
 use Rattle.rules.proofs.Reached.{Reached, Refuses}
 use Rattle.rules.proofs.OneToken.{counted, opens_symbol, closes_symbol, begins_symbol, next_symbol, nodes_one_more, brackets_plain, fault_long}
 use Rattle.rules.proofs.TokensBehind.{tokens_behind}
-use Rattle.cursor.specs.Takes.{Ahead, reserved_kind, word_kind, kind}
+use Rattle.cursor.specs.Takes.{Ahead, reserved_kind, word_kind, kind, kind_of}
 use Rattle.cursor.specs.declared.Taken.{Taken}
 use Rattle.cursor.proofs.Symbols.{kind_of_word, kind_of_byte, kind_of-reserved}
 use Rattle.flat.specs.Flat.{a_use, end_number, Kept}
-use Rattle.type_reader.specs.Leaves.{Used, used_name, long_name, Ended, not_ended, stored_head}
+use Rattle.type_reader.specs.Leaves.{Got, Used, used_name, long_name, Ended, not_ended, stored_head}
 use Rattle.type_reader.specs.Leaves as leaves
 use Rattle.type_reader.specs.Answers.{Acts, first_spelled, TypeRoom, alone, as_item, PastType, refused, past, TypeRead}
-use Rattle.type_reader.specs.declared.Got.{Got}
-use Rattle.type_reader.specs.declared.Got.TheVariants.{Refused}
+use Rattle.std.specs.Prelude.{Err}
+use Rattle.table.specs.declared.answers.RefusalKind.TheVariants as kinds
 use Rattle.type_reader.proofs.Frames.{holds_one, holds_front, head_holds, head_kept}
 use Rattle.type_reader.proofs.Took.{Took, took_word, took_reserved, not_here, took_symbols, took_spelled, took_counted, took_fault, fault_here}
 use Rattle.type_reader.proofs.Signs.{short_token}
@@ -61,7 +62,7 @@ end_symbol = reserved_word end_position
 
 module _ {s : List ℕ} (l : length s ≤ text_most) {t : Taken} where
   -- a name
-  module _ (a b : List ℕ) (m : length b ≡ text_most) (i : t.next.uses < text_most) (e : t.kind ≡ word_kind) where
+  module _ (a b : List ℕ) (m : length b ≡ text_most) (i : t.next.uses < text_most) (e : kind_of t ≡ word_kind) where
     name_fault :
         {ts : List Token} (k : Took s t ts word) {nx : Begins} (n : ℕ) (ns : List (List ℕ)) {bs : List (List (List ℕ))} → TypeRoom nx bs
         → t.len ≤ word_most → token_fault (counted nx n ns bs) k.token ≡ none
@@ -134,7 +135,7 @@ module _ {s : List ℕ} (l : length s ≤ text_most) {t : Taken} where
         took_fault k {L = L} l r d (node_fault k j n ns fits true (le-leb text_nodes_most n q))
 
   -- `end`
-  module _ (a b : List ℕ) (m : length a ≡ text_most) (e : t.kind ≡ reserved_kind) where
+  module _ (a b : List ℕ) (m : length a ≡ text_most) (e : kind_of t ≡ reserved_kind) where
     end_past :
         (ts : List Token) (J K : Stack) (nx : Begins) (ns : List (List ℕ)) (bs : List (List (List ℕ))) (h : Ahead s t ts)
         (k : Took s t ts (λ u. end_symbol)) → TypeRoom nx bs → t.next.nodes < text_nodes_most
@@ -208,18 +209,27 @@ pub acts_stuck :
     → step J (symbol u) ≡ stuck
 acts_stuck J L ts h u k e d = let g : step J (symbol u) ≡ step L (symbol u) = rw e at h in g ∙ d
 
-pub first_no_type : {s : List ℕ} {t : Taken} {ts : List Token} → Ahead s t ts → (u : Token) (k : List Token) → ts ≡ u ∷ k → (n : ℕ) → (t.kind ≡ n → ⊥) → kind (symbol u) ≡ n → ⊥
+pub first_no_type :
+    {s : List ℕ} {t : Taken} {ts : List Token} → Ahead s t ts → (u : Token) (k : List Token) → ts ≡ u ∷ k → (n : ℕ) → (kind_of t ≡ n → ⊥)
+    → kind (symbol u) ≡ n → ⊥
 first_no_type h u k e n f q = f (h.is ∙ rw (e, q) refl)
 
 pub type_none :
-    {s : List ℕ} → length s ≤ text_most → (a b : List ℕ) {t : Taken} {deep : ℕ} → (t.kind ≡ word_kind → ⊥) → (t.kind ≡ reserved_kind → ⊥)
-    → (t.kind ≡ code "?" → ⊥) → (t.kind ≡ code "!" → ⊥) → (t.kind ≡ code "&" → ⊥) → (t.kind ≡ code "+" → ⊥)
-    → TypeRead s a b a b t deep (Refused unexpected t.at)
+    {s : List ℕ} → length s ≤ text_most → (a b : List ℕ) {t : Taken} {deep : ℕ} → (kind_of t ≡ word_kind → ⊥) → (kind_of t ≡ reserved_kind → ⊥)
+    → (kind_of t ≡ code "?" → ⊥) → (kind_of t ≡ code "!" → ⊥) → (kind_of t ≡ code "&" → ⊥) → (kind_of t ≡ code "+" → ⊥)
+    → TypeRead s a b a b t deep (Err (refusal kinds.Unexpected t.at))
 type_none l a b {t} w n q g m p =
     record {
       told = λ ts x J K nx ns bs h acts r fits d.
           refused
           (not_here h l r (λ u k e.
           acts_stuck (x ∷ J) (a_type ∷ K) ts acts u k e
-          (type_stuck K (symbol u) (record { no_word = first_no_type h u k e word_kind w; no_end = first_no_type h u k e reserved_kind n; no_query = first_no_type h u k e (code "?") q; no_bang = first_no_type h u k e (code "!") g; no_and = first_no_type h u k e (code "&") m; no_plus = first_no_type h u k e (code "+") p }))));
+          (type_stuck K (symbol u) (record {
+            no_word = first_no_type h u k e word_kind w;
+            no_end = first_no_type h u k e reserved_kind n;
+            no_query = first_no_type h u k e (code "?") q;
+            no_bang = first_no_type h u k e (code "!") g;
+            no_and = first_no_type h u k e (code "&") m;
+            no_plus = first_no_type h u k e (code "+") p;
+          }))));
     }

@@ -13,23 +13,24 @@ use Rattle.rules.specs.Tokens.{Token, one_byte, symbols}
 use Rattle.rules.specs.Notation.{Way, choice, Labels, write_labels}
 use Rattle.rules.specs.Numbers.{text_most, text_nodes_most, labels_most}
 use Rattle.rules.specs.Numbering.{behind_labels}
-use Rattle.rules.specs.Refusals.{a_label}
+use Rattle.rules.specs.Refusals.{number, a_label}
 use Rattle.rules.proofs.Links.{behind_labels_more}
 use Rattle.rules.proofs.Machine as expect
 use Rattle.rules.proofs.Machine.{Stack}
 use Rattle.rules.proofs.Reached.{Reached, Refuses}
 use Rattle.rules.proofs.OneToken.{counted}
 use Rattle.rules.proofs.TokensBehind.{tokens_behind}
+use Rattle.cursor.specs.Takes.{kind_of}
 use Rattle.cursor.specs.declared.Cursor.{Cursor}
 use Rattle.cursor.specs.declared.Taken.{Taken}
 use Rattle.flat.specs.Flat.{room, list_from, choice_number, raw_labels, labels_long, Holds, Stored, StoredLabels}
-use Rattle.type_reader.specs.Leaves.{Begun, behind_node, Opened, stored_head}
+use Rattle.type_reader.specs.Leaves.{Got, got, behind_node, Opened, NodeOpened, stored_head}
 use Rattle.type_reader.specs.Answers.{PastType, TypeRead, PastLabels, LabelsGot, LabelsRead, choice_byte}
 use Rattle.type_reader.specs.Answers as answers
-use Rattle.type_reader.specs.declared.Got.{Got}
-use Rattle.type_reader.specs.declared.Got.TheVariants.{Past, Refused}
+use Rattle.std.specs.Prelude.{Ok, Err}
+use Rattle.table.specs.declared.answers.Refusal.{Refusal}
 use Rattle.type_reader.proofs.Took.{took_symbols}
-use Rattle.type_reader.proofs.Nodes.{Shape, inside_deep, sign_took, node_full, no_bracket, behind_bracket}
+use Rattle.type_reader.proofs.Nodes.{Shape, inside_deep, sign_took, node_unopened, behind_bracket}
 use Rattle.type_reader.proofs.Messages.{holds_from}
 use Rattle.type_reader.proofs.Standing.{Standing, inside, type_read, choice_begins, choice_step, choice_signs, choice_bytes, open_labels, labels_next, opened_counts}
 use Rattle.type_reader.proofs.Frames.{Same, same_within, holds_same, holds_two, labels_length, labels_same, head_other, head_kept, head_holds}
@@ -62,8 +63,8 @@ choice_written a₁ b₁ d ls k u q m list few inner a₂ node n st nd e =
 
 -- an answer, taken apart
 pub refused_labels :
-    {s a b a' b' : List ℕ} {ts : List Token} {K : Stack} {ns : List (List ℕ)} {bs : List (List (List ℕ))} {k u node n m p : ℕ}
-    → LabelsGot s a b a' b' ts K ns bs k u node n (Refused m p) → Refuses s m p
+    {s a b a' b' : List ℕ} {ts : List Token} {K : Stack} {ns : List (List ℕ)} {bs : List (List (List ℕ))} {k u node n : ℕ} {no : Refusal}
+    → LabelsGot s a b a' b' ts K ns bs k u node n (Err no) → Refuses s (number no.kind) no.place
 refused_labels (answers.refused r) = r
 
 pub record LabelsRight (s a b a' b' : List ℕ) (ts : List Token) (K : Stack) (ns : List (List ℕ)) (bs : List (List (List ℕ))) (k u node n v : ℕ) (c : Cursor) : Type 0 where
@@ -75,21 +76,18 @@ pub record LabelsRight (s a b a' b' : List ℕ) (ts : List Token) (K : Stack) (n
 
 pub labels_right :
     {s a b a' b' : List ℕ} {ts : List Token} {K : Stack} {ns : List (List ℕ)} {bs : List (List (List ℕ))} {k u node n v : ℕ} {c : Cursor}
-    → LabelsGot s a b a' b' ts K ns bs k u node n (Past v c) → LabelsRight s a b a' b' ts K ns bs k u node n v c
+    → LabelsGot s a b a' b' ts K ns bs k u node n (got v c) → LabelsRight s a b a' b' ts K ns bs k u node n v c
 labels_right (answers.past ls w q f r) = record { labels = ls; wrote = w; count = q; few = f; right = r }
 
 choice_shape : (d : Way) → Shape (choice_byte d) (code "{") (λ K. expect.a_label ∷ K)
 choice_shape d = record { byte = choice_bytes d; node = choice_begins d; bracket = open_labels; leads = choice_step d }
 
-module _ {s : List ℕ} (l : length s ≤ text_most) (d : Way) {t : Taken} (e : t.kind ≡ choice_byte d) {deep : ℕ} where
-  pub choice_full : {a b a' b' : List ℕ} {m p : ℕ} → Begun t (Refused m p) → TypeRead s a b a' b' t deep (Refused m p)
-  choice_full h = node_full l (choice_shape d) e h
+module _ {s : List ℕ} (l : length s ≤ text_most) (d : Way) {t : Taken} (e : kind_of t ≡ choice_byte d) {deep : ℕ} where
+  pub choice_unopened : {a b a' b' : List ℕ} {no : Refusal} → NodeOpened s t (code "{") deep (Err no) → TypeRead s a b a' b' t deep (Err no)
+  choice_unopened h = node_unopened l (choice_shape d) e h
 
   module _ (q : t.next.nodes < text_nodes_most) where
-    pub choice_unopened : {a b a' b' : List ℕ} {m p : ℕ} → Opened s (behind_node t.next) (code "{") deep (Refused m p) → TypeRead s a b a' b' t deep (Refused m p)
-    choice_unopened h = no_bracket l (choice_shape d) e q h
-
-    module _ {v₂ : ℕ} {c₂ : Cursor} (o : Opened s (behind_node t.next) (code "{") deep (Past v₂ c₂)) where
+    module _ {c₂ : Cursor} (o : Opened s (behind_node t.next) (code "{") deep (Ok c₂)) where
       -- behind the brace
       behind_brace :
           (z : Standing s t deep)
@@ -106,7 +104,7 @@ module _ {s : List ℕ} (l : length s ≤ text_most) (d : Way) {t : Taken} (e : 
           f.told z.K z.ns (inside z) (behind_brace z).0 (omega (arith, inside_deep z))
 
       pub choice_labels_refused :
-          {a b a₁ b₁ : List ℕ} {node m p : ℕ} → LabelsRead s a b a₁ b₁ c₂ (deep + 1) node (Refused m p) → TypeRead s a b a₁ b₁ t deep (Refused m p)
+          {a b a₁ b₁ : List ℕ} {node : ℕ} {no : Refusal} → LabelsRead s a b a₁ b₁ c₂ (deep + 1) node (Err no) → TypeRead s a b a₁ b₁ t deep (Err no)
       choice_labels_refused f = type_read (λ z. answers.refused (refused_labels (labels_told z f)))
 
       done_choice :
@@ -126,7 +124,8 @@ module _ {s : List ℕ} (l : length s ≤ text_most) (d : Way) {t : Taken} (e : 
             link = nd;
             nodes = r.nodes;
             uses = r.uses;
-            stored = choice_written a₁ b₁ d ls k₀ u₀ q m (holds_from (k₀ * room + list_from) r.holds (omega arith)) (omega (arith, i.few, i.count)) r.stored a₂ node n st nd (i.count ∙ zero-add (labels_long ls));
+            stored = choice_written a₁ b₁ d ls k₀ u₀ q m (holds_from (k₀ * room + list_from) r.holds (omega arith))
+                (omega (arith, i.few, i.count)) r.stored a₂ node n st nd (i.count ∙ zero-add (labels_long ls));
             kept =
                 record {
                   each = λ j f. rw st ((head_kept a₁ node (choice_number d) n 0).each j (omega arith)) ∙ r.kept.each j (omega arith) (inl (omega arith));
@@ -136,7 +135,7 @@ module _ {s : List ℕ} (l : length s ≤ text_most) (d : Way) {t : Taken} (e : 
 
       pub choice_done :
           {a b a₁ b₁ a₂ : List ℕ} {node n : ℕ} {c₃ : Cursor} → length a₁ ≡ text_most → node ≡ t.next.nodes
-          → LabelsRead s a b a₁ b₁ c₂ (deep + 1) node (Past n c₃) → a₂ ≡ stored_head a₁ node (choice_number d) n 0
-          → TypeRead s a b a₂ b₁ t deep (Past node c₃)
+          → LabelsRead s a b a₁ b₁ c₂ (deep + 1) node (got n c₃) → a₂ ≡ stored_head a₁ node (choice_number d) n 0
+          → TypeRead s a b a₂ b₁ t deep (got node c₃)
       choice_done {a₂} m nd f st =
           type_read (λ z. let i = labels_right (labels_told z f) in answers.past (choice d i.labels) (done_choice m nd z i a₂ st))

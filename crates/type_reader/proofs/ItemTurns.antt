@@ -10,22 +10,25 @@ use Rattle.rules.specs.Tokens.{Token, Symbol, reserved_word, one_byte, symbol, s
 use Rattle.rules.specs.Notation.{Way, Items, no_items, sort, session, sign, closing, sort_position, parted, write_type, write_items}
 use Rattle.rules.specs.Numbers.{items_most}
 use Rattle.rules.specs.Numbering.{behind}
-use Rattle.rules.specs.Refusals.{Begins, an_item, nothing_new, unexpected}
+use Rattle.rules.specs.Refusals.{number, Begins, an_item, nothing_new}
+use Rattle.rules.specs.Replies.{refusal}
 use Rattle.rules.proofs.Links.{behind_more}
 use Rattle.rules.proofs.Machine.{some_items, more_items, Stack, on, step, close_byte}
 use Rattle.rules.proofs.Machine as expect
 use Rattle.rules.proofs.Reached.{Reached, Refuses}
 use Rattle.rules.proofs.OneToken.{counted}
 use Rattle.rules.proofs.TokensBehind.{tokens_behind}
-use Rattle.cursor.specs.Takes.{Ahead, Takes}
+use Rattle.cursor.specs.Takes.{Ahead, Takes, kind_of}
 use Rattle.cursor.specs.declared.Cursor.{Cursor}
 use Rattle.cursor.specs.declared.Taken.{Taken}
 use Rattle.cursor.proofs.Symbols.{kind_of_byte}
 use Rattle.flat.specs.Flat.{room, list_from, a_session, sort_number, raw, raw_items, used}
+use Rattle.type_reader.specs.Leaves.{Got, Moved, got}
 use Rattle.type_reader.specs.Answers.{Acts, first_spelled, TypeRoom, alone, as_item, TokenReady, ItemGot, ItemsGot, ItemRead, ItemsRead}
 use Rattle.type_reader.specs.Answers as answers
-use Rattle.type_reader.specs.declared.Got.{Got}
-use Rattle.type_reader.specs.declared.Got.TheVariants.{Past, Refused}
+use Rattle.std.specs.Prelude.{Ok, Err}
+use Rattle.table.specs.declared.answers.Refusal.{Refusal}
+use Rattle.table.specs.declared.answers.RefusalKind.TheVariants as kinds
 use Rattle.type_reader.proofs.Took.{not_here}
 use Rattle.type_reader.proofs.Messages.{acts_self}
 use Rattle.type_reader.proofs.ItemSteps.{first_item, close_items, closing_sign, none_closes, rest_closes, rest_comma, rest_stuck, comma, comma_next}
@@ -57,8 +60,8 @@ module _ {s a b a' b' : List ℕ} (d : Way) (ts : List Token) {K : Stack} {ns : 
 
 -- an item that was read, and those behind it
 item_then :
-    {s a b a₁ b₁ a₂ b₂ : List ℕ} {d : Way} {ts : List Token} {K : Stack} {ns es : List (List ℕ)} {bs : List (List (List ℕ))} {k u node n v : ℕ} {c : Cursor}
-    {r : Got} → node < k → n < items_most → ItemGot s a b a₁ b₁ d ts K ns es bs k u node n (Past v c)
+    {s a b a₁ b₁ a₂ b₂ : List ℕ} {d : Way} {ts : List Token} {K : Stack} {ns es : List (List ℕ)} {bs : List (List (List ℕ))} {k u node n : ℕ} {c : Cursor}
+    {r : Got} → node < k → n < items_most → ItemGot s a b a₁ b₁ d ts K ns es bs k u node n (Ok c)
     → ItemsGot s a₁ b₁ a₂ b₂ (Further d (tokens_behind s c.at)) K ns bs c.nodes c.uses node (n + 1) r
     → ItemsGot s a b a₂ b₂ (Some d ts) K ns bs k u node n r
 item_then i m h (answers.refused z) = answers.refused z
@@ -67,28 +70,29 @@ item_then {k = k} {u = u} i m (answers.past_sort y e p) (answers.past {v} {c = c
     (entry_then (sort_number y ∷ []) (raw_items xs k u) (omega arith) (omega arith) (omega arith) (omega arith) (omega arith) p (λ q f g o. o) (rw (p.nodes, p.uses) at w))
 item_then {a₁ = a₁} {b₁} {a₂} {b₂} {k = k} {u = u} i m (answers.past_session x e p) (answers.past {v} {c = c'} xs z count most w) =
     answers.past {v = v} {c = c'} (session x xs) (e ∙ ap (λ k. write_type x k) z, λ l. refl) (omega arith) most
-    (entry_then ((a_session + raw x k u) ∷ []) (raw_items xs (behind x k) (used x u)) (behind_more x k) (used_more x u) (omega arith) (omega arith) (omega arith) p (λ q f g o. (stored_same a₁ b₁ a₂ b₂ x k u q f g, o)) (rw (p.nodes, p.uses) at w))
+    (entry_then ((a_session + raw x k u) ∷ []) (raw_items xs (behind x k) (used x u)) (behind_more x k) (used_more x u) (omega arith) (omega arith)
+    (omega arith) p (λ q f g o. (stored_same a₁ b₁ a₂ b₂ x k u q f g, o)) (rw (p.nodes, p.uses) at w))
 
 -- where an item leads that was read
 behind_item :
-    {s a b a₁ b₁ : List ℕ} {d : Way} {ts : List Token} {K : Stack} {ns es : List (List ℕ)} {bs : List (List (List ℕ))} {k u node n v : ℕ} {c : Cursor}
-    → ItemGot s a b a₁ b₁ d ts K ns es bs k u node n (Past v c)
+    {s a b a₁ b₁ : List ℕ} {d : Way} {ts : List Token} {K : Stack} {ns es : List (List ℕ)} {bs : List (List (List ℕ))} {k u node n : ℕ} {c : Cursor}
+    → ItemGot s a b a₁ b₁ d ts K ns es bs k u node n (Ok c)
     → Reached s (tokens_behind s c.at) (more_items d ∷ K) (counted nothing_new c.nodes ns ((first_spelled ts ∷ es) ∷ bs))
 behind_item (answers.past_sort y e p) = p.reached
 behind_item (answers.past_session x e p) = p.reached
 
 refused_item :
-    {s a b a₁ b₁ : List ℕ} {d : Way} {ts : List Token} {K : Stack} {ns es : List (List ℕ)} {bs : List (List (List ℕ))} {k u node n m p : ℕ}
-    → ItemGot s a b a₁ b₁ d ts K ns es bs k u node n (Refused m p) → Refuses s m p
+    {s a b a₁ b₁ : List ℕ} {d : Way} {ts : List Token} {K : Stack} {ns es : List (List ℕ)} {bs : List (List (List ℕ))} {k u node n : ℕ} {no : Refusal}
+    → ItemGot s a b a₁ b₁ d ts K ns es bs k u node n (Err no) → Refuses s (number no.kind) no.place
 refused_item (answers.refused r) = r
 
 -- the closing bracket: no further items
 items_closed :
     {s : List ℕ} (a b : List ℕ) (d : Way) {c : Cursor} {t : Taken} {J K : Stack} {nx : Begins} (ns es : List (List ℕ)) (bs : List (List (List ℕ)))
-    {W : Items → List Symbol → Type 0} (node n : ℕ) → Takes s c t → t.kind ≡ close_byte d → TypeRoom nx (es ∷ bs)
+    {W : Items → List Symbol → Type 0} (node n : ℕ) → Takes s c t → kind_of t ≡ close_byte d → TypeRoom nx (es ∷ bs)
     → Reached s (tokens_behind s c.at) J (counted nx c.nodes ns (es ∷ bs)) → step J (one_byte (close_byte d)) ≡ on K → n ≤ items_most
     → ((k : List Symbol) → symbols (tokens_behind s c.at) ≡ closing d ∷ k → W no_items k)
-    → ItemsGot s a b a b W K ns bs c.nodes c.uses node n (Past n t.next)
+    → ItemsGot s a b a b W K ns bs c.nodes c.uses node n (got n t.next)
 items_closed {s} a b d {t = t} ns es bs node n k e fits r leads m f =
     let g = list_closes k e ns es bs fits r leads (close_items d) in
     let rest : List Symbol = symbols (tokens_behind s t.next.at) in
@@ -121,7 +125,7 @@ turn_first r = record { ready = r; onward = omega arith; more = omega arith; due
 
 -- an item that is not the closing bracket is read as behind a comma
 acts_first :
-    {s : List ℕ} (d : Way) (K : Stack) {t : Taken} (ts : List Token) → Ahead s t ts → (t.kind ≡ close_byte d → ⊥)
+    {s : List ℕ} (d : Way) (K : Stack) {t : Taken} (ts : List Token) → Ahead s t ts → (kind_of t ≡ close_byte d → ⊥)
     → Acts (some_items d ∷ K) (expect.an_item d ∷ K) ts
 acts_first d K [] h n = tt
 acts_first d K (u ∷ k) h n = first_item d K (symbol u) (λ e. n (h.is ∙ rw e (kind_of_byte (close_byte d) (close_items d).byte)))
@@ -129,13 +133,13 @@ acts_first d K (u ∷ k) h n = first_item d K (symbol u) (λ e. n (h.is ∙ rw e
 -- behind the opening bracket: the token t₀ closes the list, or items begin with it
 module _ {s : List ℕ} {c : Cursor} {t₀ : Taken} (k₀ : Takes s c t₀) {closing deep node : ℕ} where
   pub turn_none :
-      (a b : List ℕ) → t₀.kind ≡ closing → (d : Way) → closing ≡ close_byte d → ItemsRead s a b a b d c deep node (Past 0 t₀.next)
+      (a b : List ℕ) → kind_of t₀ ≡ closing → (d : Way) → closing ≡ close_byte d → ItemsRead s a b a b d c deep node (got 0 t₀.next)
   turn_none a b e d x =
       record {
         told = λ K ns bs r q. items_closed a b d ns [] bs node 0 k₀ (e ∙ x) (as_item (omega arith)) r (none_closes d K) (omega arith) (λ k e. e);
       }
 
-  module _ (some : t₀.kind ≡ closing → ⊥) where
+  module _ (some : kind_of t₀ ≡ closing → ⊥) where
     items_read :
         {a b a' b' : List ℕ} {r : Got}
         → ((z : Beginning s t₀ closing deep) → ItemsGot s a b a' b' (Some z.d z.due.ts) z.K z.ns z.bs t₀.next.nodes t₀.next.uses node 0 r)
@@ -144,31 +148,40 @@ module _ {s : List ℕ} {c : Cursor} {t₀ : Taken} (k₀ : Takes s c t₀) {clo
         record {
           told = λ K ns bs r q.
               let ts : List Token = tokens_behind s c.at in
-              let due : Due s t₀ d K ns bs 0 = record { ts = ts; x = some_items d; J = K; es = []; ahead = k₀.ahead; acts = acts_first d K ts k₀.ahead (λ e. some (e ∙ sym x)); reached = rw k₀.nodes r; long = refl } in
+              let due : Due s t₀ d K ns bs 0 =
+              record {
+                ts = ts;
+                x = some_items d;
+                J = K;
+                es = [];
+                ahead = k₀.ahead;
+                acts = acts_first d K ts k₀.ahead (λ e. some (e ∙ sym x));
+                reached = rw k₀.nodes r;
+                long = refl;
+              } in
               let g = f (record { d = d; K = K; ns = ns; bs = bs; closes = x; depth = q; due = due }) in
               only_written d ts (rw (k₀.nodes, k₀.uses) at g);
         }
 
     -- one turn: the item at t is read
-    module _ {a₀ b₀ a b a₁ b₁ : List ℕ} {t : Taken} {n : ℕ} (g : Turning s a₀ b₀ a b closing deep node t₀ t n) {r : Got} (f : ItemRead s a b a₁ b₁ t deep node n r) where
+    module _ {a₀ b₀ a b a₁ b₁ : List ℕ} {t : Taken} {n : ℕ} (g : Turning s a₀ b₀ a b closing deep node t₀ t n) where
       item_told :
-          (z : Beginning s t₀ closing deep)
+          {r : Moved} → ItemRead s a b a₁ b₁ t deep node n r → (z : Beginning s t₀ closing deep)
           → ItemGot s a b a₁ b₁ z.d (g.due z).ts z.K z.ns (g.due z).es z.bs t.next.nodes t.next.uses node n r
-      item_told z =
+      item_told f z =
           let y = g.due z in
           f.told z.d y.ts y.x y.J z.K z.ns y.es z.bs y.ahead y.acts y.reached y.long z.depth
 
-      pub turn_refused : {m p : ℕ} → r ≡ Refused m p → (d : Way) → closing ≡ close_byte d → ItemsRead s a₀ b₀ a₁ b₁ d c deep node r
-      turn_refused {m} {p} e =
-          items_read (λ z.
-          let h = item_told z in
-          g.whole z a₁ b₁ r (rw e (answers.refused {m = m} {p = p} (refused_item (rw e at h)))))
+      pub turn_refused :
+          {no : Refusal} → ItemRead s a b a₁ b₁ t deep node n (Err no) → (d : Way) → closing ≡ close_byte d
+          → ItemsRead s a₀ b₀ a₁ b₁ d c deep node (Err no)
+      turn_refused {no} f = items_read (λ z. g.whole z a₁ b₁ (Err no) (answers.refused {no = no} (refused_item (item_told f z))))
 
-      module _ {v : ℕ} {c₁ : Cursor} (e : r ≡ Past v c₁) (i : node < t₀.next.nodes) {t₁ : Taken} (k₁ : Takes s c₁ t₁) where
+      module _ {c₁ : Cursor} (f : ItemRead s a b a₁ b₁ t deep node n (Ok c₁)) (i : node < t₀.next.nodes) {t₁ : Taken} (k₁ : Takes s c₁ t₁) where
         here :
             (z : Beginning s t₀ closing deep)
-            → ItemGot s a b a₁ b₁ z.d (g.due z).ts z.K z.ns (g.due z).es z.bs t.next.nodes t.next.uses node n (Past v c₁)
-        here z = let h = item_told z in rw e at h
+            → ItemGot s a b a₁ b₁ z.d (g.due z).ts z.K z.ns (g.due z).es z.bs t.next.nodes t.next.uses node n (Ok c₁)
+        here z = item_told f z
 
         inside : node < t.next.nodes
         inside = omega (arith, g.more)
@@ -178,26 +191,26 @@ module _ {s : List ℕ} {c : Cursor} {t₀ : Taken} (k₀ : Takes s c t₀) {clo
         entries z = first_spelled (g.due z).ts ∷ (g.due z).es
 
         pub turn_closed :
-            t₁.kind ≡ closing → (d : Way) → closing ≡ close_byte d → ItemsRead s a₀ b₀ a₁ b₁ d c deep node (Past (n + 1) t₁.next)
+            kind_of t₁ ≡ closing → (d : Way) → closing ≡ close_byte d → ItemsRead s a₀ b₀ a₁ b₁ d c deep node (got (n + 1) t₁.next)
         turn_closed q =
             items_read (λ z.
-            g.whole z a₁ b₁ (Past (n + 1) t₁.next)
-            (item_then inside (f.few e) (here z)
-            (items_closed a₁ b₁ z.d z.ns (entries z) z.bs node (n + 1) k₁ (q ∙ z.closes) alone (behind_item (here z)) (rest_closes z.d z.K) (omega (arith, f.few e)) (λ k o. o))))
+            g.whole z a₁ b₁ (got (n + 1) t₁.next)
+            (item_then inside (f.few refl) (here z)
+            (items_closed a₁ b₁ z.d z.ns (entries z) z.bs node (n + 1) k₁ (q ∙ z.closes) alone (behind_item (here z)) (rest_closes z.d z.K) (omega (arith, f.few refl)) (λ k o. o))))
 
         pub turn_other :
-            (t₁.kind ≡ closing → ⊥) → (t₁.kind ≡ code "," → ⊥) → (d : Way) → closing ≡ close_byte d
-            → ItemsRead s a₀ b₀ a₁ b₁ d c deep node (Refused unexpected t₁.at)
+            (kind_of t₁ ≡ closing → ⊥) → (kind_of t₁ ≡ code "," → ⊥) → (d : Way) → closing ≡ close_byte d
+            → ItemsRead s a₀ b₀ a₁ b₁ d c deep node (Err (refusal kinds.Unexpected t₁.at))
         turn_other p q =
             items_read (λ z.
-            g.whole z a₁ b₁ (Refused unexpected t₁.at)
+            g.whole z a₁ b₁ (Err (refusal kinds.Unexpected t₁.at))
             (answers.refused
             (not_here k₁.ahead g.ready.ready.short (behind_item (here z)) (λ u j o.
             rest_stuck z.d z.K (symbol u)
             (λ y. p (k₁.ahead.is ∙ rw (o, y) (kind_of_byte (close_byte z.d) (close_items z.d).byte) ∙ sym z.closes))
             (λ y. q (k₁.ahead.is ∙ rw (o, y) (kind_of_byte (code ",") (omega arith))))))))
 
-        module _ (q : t₁.kind ≡ code ",") {t₂ : Taken} (k₂ : Takes s t₁.next t₂) where
+        module _ (q : kind_of t₁ ≡ code ",") {t₂ : Taken} (k₂ : Takes s t₁.next t₂) where
           behind_comma :
               (z : Beginning s t₀ closing deep)
               → Reached s (tokens_behind s t₁.next.at) (expect.an_item z.d ∷ z.K) (counted an_item t₁.next.nodes z.ns (entries z ∷ z.bs))
@@ -225,5 +238,5 @@ module _ {s : List ℕ} {c : Cursor} {t₀ : Taken} (k₀ : Takes s c t₀) {clo
                     };
                 whole = λ z a' b' y x.
                     g.whole z a' b' y
-                    (item_then inside (f.few e) (here z) (with_comma z.d (tokens_behind s t₁.next.at) (tokens_behind s c₁.at) (behind_comma z).1 (rw (k₂.nodes, k₂.uses, k₁.nodes, k₁.uses) at x)));
+                    (item_then inside (f.few refl) (here z) (with_comma z.d (tokens_behind s t₁.next.at) (tokens_behind s c₁.at) (behind_comma z).1 (rw (k₂.nodes, k₂.uses, k₁.nodes, k₁.uses) at x)));
               }

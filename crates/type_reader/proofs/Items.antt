@@ -16,24 +16,26 @@ use Rattle.rules.specs.Tokens.{Token, Symbol, word, reserved_word, symbol}
 use Rattle.rules.specs.Notation.{Way, sort_position}
 use Rattle.rules.specs.Numbers.{text_most, text_nodes_most, items_most}
 use Rattle.rules.specs.Numbering.{behind}
-use Rattle.rules.specs.Refusals.{an_item, nothing_new, one_too_many}
+use Rattle.rules.specs.Refusals.{number, an_item, nothing_new, one_too_many}
 use Rattle.rules.specs.computed.Reading.{token_fault}
+use Rattle.rules.specs.Replies.{refusal}
 use Rattle.rules.proofs.Links.{behind_more}
 use Rattle.rules.proofs.Machine.{Expect, more_items, a_type, Stack, on, step}
 use Rattle.rules.proofs.Machine as expect
 use Rattle.rules.proofs.Reached.{Reached, Refuses, reached_fault}
 use Rattle.rules.proofs.OneToken.{counted, opens_symbol, begins_symbol, fault_symbol, fault_long, nodes_same, brackets_plain}
 use Rattle.rules.proofs.TokensBehind.{tokens_behind}
-use Rattle.cursor.specs.Takes.{Ahead, kind, reserved_kind, word_kind, end_kind}
+use Rattle.cursor.specs.Takes.{Ahead, kind, reserved_kind, word_kind, end_kind, kind_of}
 use Rattle.cursor.specs.declared.Cursor.{Cursor}
 use Rattle.cursor.specs.declared.Taken.{Taken}
 use Rattle.flat.specs.Flat.{room, list_from, a_session, sort_number, raw, KeptBut}
 use Rattle.table.specs.declared.Sort.{Sort}
-use Rattle.type_reader.specs.Leaves.{ItemBegun, no_item, long_item, item_too_many, begins_item, is_sort}
+use Rattle.type_reader.specs.Leaves.{Got, Moved, got, ItemBegun, no_item, long_item, item_too_many, begins_item, is_sort}
 use Rattle.type_reader.specs.Answers.{Acts, first_spelled, as_item, TypeGot, TypeRead, ItemGot, ItemRead}
 use Rattle.type_reader.specs.Answers as answers
-use Rattle.type_reader.specs.declared.Got.{Got}
-use Rattle.type_reader.specs.declared.Got.TheVariants.{Past, Refused}
+use Rattle.std.specs.Prelude.{Ok, Err}
+use Rattle.table.specs.declared.answers.Refusal.{Refusal}
+use Rattle.table.specs.declared.answers.RefusalKind.TheVariants as kinds
 use Rattle.type_reader.proofs.Took.{Took, took_word, not_here, took_symbols, took_spelled, took_counted, took_fault, fault_here}
 use Rattle.type_reader.proofs.Begins.{kept_all, acts_step, acts_stuck}
 use Rattle.type_reader.proofs.Messages.{refused_type, past_type}
@@ -42,7 +44,7 @@ use Rattle.type_reader.proofs.Lists.{entry_written}
 use Rattle.type_reader.proofs.Frames.{holds_one}
 
 -- the first token's kind is its symbol's
-first_symbol : {s : List ℕ} {t : Taken} {ts : List Token} → Ahead s t ts → (u : Token) (k : List Token) → ts ≡ u ∷ k → kind (symbol u) ≡ t.kind
+first_symbol : {s : List ℕ} {t : Taken} {ts : List Token} → Ahead s t ts → (u : Token) (k : List Token) → ts ≡ u ∷ k → kind (symbol u) ≡ kind_of t
 first_symbol h u k e = sym (h.is ∙ rw e refl)
 
 no_end_item : begins_item end_kind ≡ false
@@ -61,9 +63,9 @@ no_end_sort = refl
 record SortTook (s : List ℕ) (t : Taken) (ts : List Token) : Type 0 where
   which : Sort
   is : Took s t ts (λ u. reserved_word (sort_position which))
-  number : t.kind - reserved_kind - 1 ≡ sort_number which
+  number : kind_of t - reserved_kind - 1 ≡ sort_number which
 
-sort_took : {s : List ℕ} {t : Taken} (ts : List Token) → Ahead s t ts → is_sort t.kind ≡ true → SortTook s t ts
+sort_took : {s : List ℕ} {t : Taken} (ts : List Token) → Ahead s t ts → is_sort (kind_of t) ≡ true → SortTook s t ts
 sort_took [] h e = let z : is_sort end_kind ≡ true = rw h.is at e in absurd (false≢true (sym no_end_sort ∙ z))
 sort_took {s} {t} (u ∷ k) h e =
     let w = a_sort (symbol u) (rw (← h.is) e) in
@@ -76,13 +78,13 @@ sort_took {s} {t} (u ∷ k) h e =
 -- a fifth item
 item_fault :
     (u : Token) (y : Symbol) (n : ℕ) (ns es : List (List ℕ)) (bs : List (List (List ℕ))) → symbol u ≡ y → length u.spelled ≤ word_most
-    → opens_symbol y ≡ false → items_most ≤ length es → token_fault (counted an_item n ns (es ∷ bs)) u ≡ some one_too_many
+    → opens_symbol y ≡ false → items_most ≤ length es → token_fault (counted an_item n ns (es ∷ bs)) u ≡ some kinds.OneTooMany
 item_fault u y n ns es bs e j o m =
     fault_symbol u y e (counted an_item n ns (es ∷ bs)) j
     ∙ rw (o, le-leb items_most (length es) m, or_true (begins_symbol y && leb text_nodes_most n)) refl
 
 -- a long token is a word
-long_word : {s : List ℕ} {t : Taken} {ts : List Token} → Ahead s t ts → word_most < t.len → t.kind ≡ word_kind
+long_word : {s : List ℕ} {t : Taken} {ts : List Token} → Ahead s t ts → word_most < t.len → kind_of t ≡ word_kind
 long_word h l = elim h.short [ inl e ↦ e | inr m ↦ absurd (omega arith) ]
 
 -- one number is written
@@ -109,38 +111,38 @@ pub record Due (s : List ℕ) (t : Taken) (d : Way) (K : Stack) (ns : List (List
   pub long : length es ≡ n
 
 item_read :
-    {s a b a' b' : List ℕ} {t : Taken} {deep node n : ℕ} {r : Got} → ((v : ℕ) (c : Cursor) → r ≡ Past v c → n < items_most)
+    {s a b a' b' : List ℕ} {t : Taken} {deep node n : ℕ} {r : Moved} → ((c : Cursor) → r ≡ Ok c → n < items_most)
     → ((d : Way) (K : Stack) (ns : List (List ℕ)) (bs : List (List (List ℕ))) (z : Due s t d K ns bs n) → suc (length bs) ≡ deep
     → ItemGot s a b a' b' d z.ts K ns z.es bs t.next.nodes t.next.uses node n r)
     → ItemRead s a b a' b' t deep node n r
 item_read m f =
     record {
-      few = λ e. m _ _ e;
+      few = λ e. m _ e;
       told = λ d ts x J K ns es bs h acts r p q.
           f d K ns bs (record { ts = ts; x = x; J = J; es = es; ahead = h; acts = acts; reached = r; long = p }) q;
     }
 
 -- a refusal, wherever the item may stand
 refused_item :
-    {s a b a' b' : List ℕ} {t : Taken} {deep node n m p : ℕ}
-    → ((d : Way) (K : Stack) (ns : List (List ℕ)) (bs : List (List (List ℕ))) → Due s t d K ns bs n → suc (length bs) ≡ deep → Refuses s m p)
-    → ItemRead s a b a' b' t deep node n (Refused m p)
+    {s a b a' b' : List ℕ} {t : Taken} {deep node n : ℕ} {no : Refusal}
+    → ((d : Way) (K : Stack) (ns : List (List ℕ)) (bs : List (List (List ℕ))) → Due s t d K ns bs n → suc (length bs) ≡ deep → Refuses s (number no.kind) no.place)
+    → ItemRead s a b a' b' t deep node n (Err no)
 refused_item f =
-    item_read (λ v c e. let z : ◌≡◌ {A = ℕ} 0 1 = cc e in absurd (omega arith)) (λ d K ns bs z q. answers.refused (f d K ns bs z q))
+    item_read (λ c e. let z : ◌≡◌ {A = ℕ} 0 1 = cc e in absurd (omega arith)) (λ d K ns bs z q. answers.refused (f d K ns bs z q))
 
 module _ {s : List ℕ} (l : length s ≤ text_most) where
   -- a token that stands first, whatever it is
   many_items :
       {t : Taken} (d : Way) (ts : List Token) (x : Expect) (J K : Stack) (ns es : List (List ℕ)) (bs : List (List (List ℕ))) → Ahead s t ts
       → Acts (x ∷ J) (expect.an_item d ∷ K) ts → Reached s ts (x ∷ J) (counted an_item t.next.nodes ns (es ∷ bs)) → items_most ≤ length es
-      → begins_item t.kind ≡ true → t.len ≤ word_most → Refuses s one_too_many t.at
+      → begins_item (kind_of t) ≡ true → t.len ≤ word_most → Refuses s one_too_many t.at
   many_items d [] x J K ns es bs h acts r m e j = let z : begins_item end_kind ≡ true = rw h.is at e in absurd (false≢true (sym no_end_item ∙ z))
   many_items {t} d (u ∷ k) x J K ns es bs h acts r m e j =
       let g = item_goes_on d K (symbol u) (rw (← h.is) e) in
       rw h.stands
       (reached_fault {J = g.to} l r (acts ∙ g.leads) (item_fault u (symbol u) t.next.nodes ns es bs refl (omega (arith, h.long)) g.no_opening m))
 
-  pub item_refused : (a b a' b' : List ℕ) {t : Taken} {deep node n m p : ℕ} → ItemBegun t n (Refused m p) → ItemRead s a b a' b' t deep node n (Refused m p)
+  pub item_refused : (a b a' b' : List ℕ) {t : Taken} {deep node n : ℕ} {no : Refusal} → ItemBegun t n (Err no) → ItemRead s a b a' b' t deep node n (Err no)
   item_refused a b a' b' {t} (no_item e) =
       refused_item (λ d K ns bs z q.
       not_here z.ahead l z.reached (λ u k g.
@@ -151,7 +153,7 @@ module _ {s : List ℕ} (l : length s ≤ text_most) where
       took_fault k {L = more_items d ∷ K} l z.reached (acts_step (z.x ∷ z.J) (expect.an_item d ∷ K) k z.acts ∙ word_leads K k.token)
       (fault_long (counted an_item t.next.nodes ns (z.es ∷ bs)) k.token (omega (arith, k.long))))
   item_refused a b a' b' {t} (item_too_many e j m) =
-      refused_item {m = one_too_many} (λ d K ns bs z q.
+      refused_item {no = refusal kinds.OneTooMany t.at} (λ d K ns bs z q.
       many_items d z.ts z.x z.J K ns z.es bs z.ahead z.acts z.reached (omega (arith, z.long)) e j)
 
   -- A sort.
@@ -171,11 +173,11 @@ module _ {s : List ℕ} (l : length s ≤ text_most) where
       (rw (q.goes_on, nodes_same y t.next.nodes q.no_node, brackets_plain y ((k.token.spelled ∷ z.es) ∷ bs) q.no_opening q.no_closing) at g)
 
   pub item_sort :
-      (a b : List ℕ) {t : Taken} {deep node n v : ℕ} → t.len ≤ word_most → n < items_most → is_sort t.kind ≡ true → node < t.next.nodes
+      (a b : List ℕ) {t : Taken} {deep node n : ℕ} → t.len ≤ word_most → n < items_most → is_sort (kind_of t) ≡ true → node < t.next.nodes
       → t.next.nodes ≤ text_nodes_most → length a ≡ text_most
-      → ItemRead s a b (set a (node * room + list_from + n) (t.kind - reserved_kind - 1)) b t deep node n (Past v t.next)
+      → ItemRead s a b (set a (node * room + list_from + n) (kind_of t - reserved_kind - 1)) b t deep node n (Ok t.next)
   item_sort a b {t} {deep} {node} {n} j m e i few long =
-      item_read (λ o c' q. m) (λ d K ns bs z q.
+      item_read (λ c' q. m) (λ d K ns bs z q.
       let from : ℕ = node * room + list_from + n in
       let w = sort_took z.ts z.ahead e in
       answers.past_sort {c = t.next} w.which (took_symbols w.is)
@@ -183,20 +185,20 @@ module _ {s : List ℕ} (l : length s ≤ text_most) where
         reached = behind_sort z w j m;
         nodes = refl;
         uses = refl;
-        holds = holds_one from (sort_number w.which) (get_or-set_same a from (t.kind - reserved_kind - 1) 0 (omega arith) ∙ w.number);
+        holds = holds_one from (sort_number w.which) (get_or-set_same a from (kind_of t - reserved_kind - 1) 0 (omega arith) ∙ w.number);
         stored = tt;
-        kept = number_kept a from (node * room + room) (t.next.nodes * room) (t.kind - reserved_kind - 1) (omega arith);
+        kept = number_kept a from (node * room + room) (t.next.nodes * room) (kind_of t - reserved_kind - 1) (omega arith);
         kept_uses = kept_all b _;
       }))
 
   -- A type.
   acts_type :
-      {t : Taken} (d : Way) (ts : List Token) (x : Expect) (J K : Stack) → Ahead s t ts → is_sort t.kind ≡ false
+      {t : Taken} (d : Way) (ts : List Token) (x : Expect) (J K : Stack) → Ahead s t ts → is_sort (kind_of t) ≡ false
       → Acts (x ∷ J) (expect.an_item d ∷ K) ts → Acts (x ∷ J) (a_type ∷ more_items d ∷ K) ts
   acts_type d [] x J K h e acts = tt
   acts_type d (u ∷ k) x J K h e acts = acts ∙ type_item d K (symbol u) (rw (← h.is) e)
 
-  module _ {a b a₁ b₁ : List ℕ} {t : Taken} {deep n : ℕ} (m : n < items_most) (e : is_sort t.kind ≡ false) where
+  module _ {a b a₁ b₁ : List ℕ} {t : Taken} {deep n : ℕ} (m : n < items_most) (e : is_sort (kind_of t) ≡ false) where
     type_told :
         {r : Got} → TypeRead s a b a₁ b₁ t deep r → {d : Way} {K : Stack} {ns : List (List ℕ)} {bs : List (List (List ℕ))} (z : Due s t d K ns bs n)
         → suc (length bs) ≡ deep → TypeGot s a b a₁ b₁ t z.ts (more_items d ∷ K) an_item ns (z.es ∷ bs) r
@@ -204,15 +206,15 @@ module _ {s : List ℕ} (l : length s ≤ text_most) where
         f.told z.ts z.x z.J (more_items d ∷ K) an_item ns (z.es ∷ bs) z.ahead (acts_type d z.ts z.x z.J K z.ahead e z.acts) z.reached
         (as_item (omega (arith, z.long))) q
 
-    pub item_type_refused : {node q p : ℕ} → TypeRead s a b a₁ b₁ t deep (Refused q p) → ItemRead s a b a₁ b₁ t deep node n (Refused q p)
+    pub item_type_refused : {node : ℕ} {no : Refusal} → TypeRead s a b a₁ b₁ t deep (Err no) → ItemRead s a b a₁ b₁ t deep node n (Err no)
     item_type_refused f = refused_item (λ d K ns bs z q. refused_type (type_told f z q))
 
     pub item_type :
-        {node link v : ℕ} {c : Cursor} → node < t.next.nodes → c.nodes ≤ text_nodes_most → length a₁ ≡ text_most
-        → TypeRead s a b a₁ b₁ t deep (Past link c)
-        → ItemRead s a b (set a₁ (node * room + list_from + n) (a_session + link)) b₁ t deep node n (Past v c)
-    item_type {node} {link} {v} {c} i few long f =
-        item_read (λ o c' q. m) (λ d K ns bs z q.
+        {node link : ℕ} {c : Cursor} → node < t.next.nodes → c.nodes ≤ text_nodes_most → length a₁ ≡ text_most
+        → TypeRead s a b a₁ b₁ t deep (got link c)
+        → ItemRead s a b (set a₁ (node * room + list_from + n) (a_session + link)) b₁ t deep node n (Ok c)
+    item_type {node} {link} {c} i few long f =
+        item_read (λ c' q. m) (λ d K ns bs z q.
         let from : ℕ = node * room + list_from + n in
         let k : ℕ = t.next.nodes in
         let (x, p) = past_type (type_told f z q) in

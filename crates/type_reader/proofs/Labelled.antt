@@ -18,9 +18,10 @@ use Rattle.rules.specs.Tokens.{Token, word, one_byte, symbol, symbols, tokens}
 use Rattle.rules.specs.Notation.{Ty}
 use Rattle.rules.specs.Numbers.{text_most, text_nodes_most, labels_most}
 use Rattle.rules.specs.Numbering.{behind}
-use Rattle.rules.specs.Refusals.{a_label, nothing_new, one_of, among, one_too_many, Seen}
-use Rattle.rules.specs.Refusals as refusal
+use Rattle.rules.specs.Refusals.{number, a_label, nothing_new, one_of, among, Seen}
+use Rattle.rules.specs.Refusals.{number}
 use Rattle.rules.specs.computed.Reading.{token_fault, lowest, if_so}
+use Rattle.rules.specs.Replies.{refusal}
 use Rattle.rules.proofs.Links.{behind_more}
 use Rattle.rules.proofs.Machine.{this, a_type, more_labels, Stack}
 use Rattle.rules.proofs.Machine as expect
@@ -28,17 +29,18 @@ use Rattle.rules.proofs.Reached.{Reached, Refuses}
 use Rattle.rules.proofs.TokenLists.{token_spelling}
 use Rattle.rules.proofs.OneToken.{counted, fault_symbol, fault_long}
 use Rattle.rules.proofs.TokensBehind.{tokens_behind}
-use Rattle.cursor.specs.Takes.{Ahead, Takes, word_kind}
+use Rattle.cursor.specs.Takes.{Ahead, Takes, word_kind, kind_of}
 use Rattle.cursor.specs.declared.Cursor.{Cursor}
 use Rattle.cursor.specs.declared.Taken.{Taken}
 use Rattle.cursor.proofs.Symbols.{kind_of_word}
 use Rattle.flat.specs.Flat.{room, list_from, row, raw, raw_row, used, words_of, Stored, Kept, KeptBut}
 use Rattle.flat.proofs.Rows.{row_apart, row_at}
-use Rattle.type_reader.specs.Leaves.{Signed, Labelled, no_label, long_label, label_too_many, label_twice, labelled, word_at, stored_label}
+use Rattle.type_reader.specs.Leaves.{Got, got, Signed, Labelled, no_label, long_label, label_too_many, label_twice, labelled, word_at, stored_label}
 use Rattle.type_reader.specs.Answers.{alone, PastType, TypeGot, TypeRead, PastList, LabelRead}
 use Rattle.type_reader.specs.Answers as answers
-use Rattle.type_reader.specs.declared.Got.{Got}
-use Rattle.type_reader.specs.declared.Got.TheVariants.{Past, Refused}
+use Rattle.std.specs.Prelude.{Ok, Err}
+use Rattle.table.specs.declared.answers.Refusal.{Refusal}
+use Rattle.table.specs.declared.answers.RefusalKind.TheVariants as kinds
 use Rattle.type_reader.proofs.Took.{Took, took_word, not_here, took_symbols, took_counted, took_fault}
 use Rattle.type_reader.proofs.Signs.{sign-refused, sign-past}
 use Rattle.type_reader.proofs.Standing.{colon, colon_next, signed_counts}
@@ -59,7 +61,7 @@ spelled_part {s} {t} r k =
 label_fault :
     (u : Token) (n : ℕ) (ns es : List (List ℕ)) (bs : List (List (List ℕ))) → symbol u ≡ word u → length u.spelled ≤ word_most
     → token_fault (counted a_label n ns (es ∷ bs)) u
-    ≡ lowest false false (leb labels_most (length es)) (if_so (among es u.spelled) refusal.label_twice)
+    ≡ lowest false false (leb labels_most (length es)) (if_so (among es u.spelled) kinds.LabelTwice)
 unfolding one_of
 label_fault u n ns es bs e j = fault_symbol u (word u) e (counted a_label n ns (es ∷ bs)) j
 
@@ -75,11 +77,11 @@ row_kept a node n t link to m l = record { each = go }
 
 -- a refusal, wherever the label may stand
 refused-label :
-    {s a b a' b' : List ℕ} {t : Taken} {deep node n m p : ℕ}
+    {s a b a' b' : List ℕ} {t : Taken} {deep node n : ℕ} {no : Refusal}
     → ((ts : List Token) (K : Stack) (ns : List (List ℕ)) (bs : List (List (List ℕ))) → Ahead s t ts
     → Reached s ts (expect.a_label ∷ K) (counted a_label t.next.nodes ns (words_of s a (node * room + list_from) n ∷ bs))
-    → suc (length bs) ≡ deep → Refuses s m p)
-    → LabelRead s a b a' b' t deep node n (Refused m p)
+    → suc (length bs) ≡ deep → Refuses s (number no.kind) no.place)
+    → LabelRead s a b a' b' t deep node n (Err no)
 refused-label f =
     record {
       few = λ e. let z : ◌≡◌ {A = ℕ} 0 1 = cc e in absurd (omega arith);
@@ -88,24 +90,21 @@ refused-label f =
 
 -- a label that may stand behind n others
 pub record NewLabel (s a : List ℕ) (i : ℕ) (t : Taken) (n : ℕ) : Type 0 where
-  pub is_word : t.kind ≡ word_kind
+  pub is_word : kind_of t ≡ word_kind
   pub short : t.len ≤ word_most
   pub few : n < labels_most
   pub new : (j : ℕ) → j < n → word_at s a i j t ≡ false
 
-new_label : {s a : List ℕ} {i : ℕ} {t : Taken} {n v : ℕ} {c : Cursor} → Labelled s a i t n (Past v c) → NewLabel s a i t n × (c ≡ t.next)
-new_label (labelled e j m f) = (record { is_word = e; short = j; few = m; new = f }, refl)
-
-pub fresh_label : {s a : List ℕ} {i : ℕ} {t : Taken} {n v : ℕ} {c : Cursor} {r : Got} → Labelled s a i t n r → r ≡ Past v c → NewLabel s a i t n × (c ≡ t.next)
-fresh_label h e = new_label (rw e at h)
+pub fresh_label : {s a : List ℕ} {i : ℕ} {t : Taken} {n : ℕ} {c : Cursor} → Labelled s a i t n (Ok c) → NewLabel s a i t n × (c ≡ t.next)
+fresh_label (labelled e j m f) = (record { is_word = e; short = j; few = m; new = f }, refl)
 
 abbrev labels_here : List ℕ → List ℕ → ℕ → Taken → ℕ → List (List ℕ)
 labels_here s a i t n = part s t.at t.len ∷ words_of s a i n
 
 module _ {s : List ℕ} (l : length s ≤ text_most) where
   pub label-refused :
-      (a b a' b' : List ℕ) {t : Taken} {deep node n m p : ℕ} → Labelled s a (node * room + list_from) t n (Refused m p)
-      → LabelRead s a b a' b' t deep node n (Refused m p)
+      (a b a' b' : List ℕ) {t : Taken} {deep node n : ℕ} {no : Refusal} → Labelled s a (node * room + list_from) t n (Err no)
+      → LabelRead s a b a' b' t deep node n (Err no)
   label-refused a b a' b' {t} (no_label e) =
       refused-label (λ ts K ns bs h r q. not_here h l r (λ u k g. label-stuck K (symbol u) (λ w f. e (h.is ∙ rw (g, f) (kind_of_word w)))))
   label-refused a b a' b' {t} {node = node} {n = n} (long_label e j) =
@@ -114,18 +113,18 @@ module _ {s : List ℕ} (l : length s ≤ text_most) where
       took_fault k {L = this (code ":") ∷ a_type ∷ more_labels ∷ K} l r (label_leads K k.token)
       (fault_long (counted a_label t.next.nodes ns (words_of s a (node * room + list_from) n ∷ bs)) k.token (omega (arith, k.long))))
   label-refused a b a' b' {t} {node = node} {n = n} (label_too_many e j m) =
-      refused-label {m = one_too_many} (λ ts K ns bs h r q.
+      refused-label {no = refusal kinds.OneTooMany t.at} (λ ts K ns bs h r q.
       let k = took_word h e in
       let es : List (List ℕ) = words_of s a (node * room + list_from) n in
-      took_fault k {L = this (code ":") ∷ a_type ∷ more_labels ∷ K} l r (label_leads K k.token)
+      took_fault k {L = this (code ":") ∷ a_type ∷ more_labels ∷ K} {n = kinds.OneTooMany} l r (label_leads K k.token)
       (label_fault k.token t.next.nodes ns es bs k.means (omega (arith, k.long))
       ∙ rw (le-leb labels_most (length es) (omega (arith, words_long s a (node * room + list_from) n))) refl))
   label-refused a b a' b' {t} {node = node} {n = n} (label_twice e j m i g f) =
-      refused-label {m = refusal.label_twice} (λ ts K ns bs h r q.
+      refused-label {no = refusal kinds.LabelTwice t.at} (λ ts K ns bs h r q.
       let k = took_word h e in
       let es : List (List ℕ) = words_of s a (node * room + list_from) n in
       let y : among es k.token.spelled ≡ true = rw (spelled_part r k) (among_words s a (node * room + list_from) (part s t.at t.len) n i g f) in
-      took_fault k {L = this (code ":") ∷ a_type ∷ more_labels ∷ K} l r (label_leads K k.token)
+      took_fault k {L = this (code ":") ∷ a_type ∷ more_labels ∷ K} {n = kinds.LabelTwice} l r (label_leads K k.token)
       (label_fault k.token t.next.nodes ns es bs k.means (omega (arith, k.long))
       ∙ rw (lt-leb labels_most (length es) (omega (arith, words_long s a (node * room + list_from) n)), y) refl))
 
@@ -151,12 +150,12 @@ module _ {s : List ℕ} (l : length s ≤ text_most) where
 
   module _ (a b : List ℕ) {t : Taken} (deep node n : ℕ) (g : NewLabel s a (node * room + list_from) t n) where
     pub label_colon_refused :
-        {a' b' : List ℕ} {q p : ℕ} → Signed s t.next (code ":") (Refused q p) → LabelRead s a b a' b' t deep node n (Refused q p)
+        {a' b' : List ℕ} {no : Refusal} → Signed s t.next (code ":") (Err no) → LabelRead s a b a' b' t deep node n (Err no)
     label_colon_refused k =
         refused-label (λ ts K ns bs h r q.
         sign-refused l t.next.nodes ns (labels_here s a (node * room + list_from) t n ∷ bs) (omega arith) k (behind_label a node n g ts K ns bs h r))
 
-    module _ {v₂ : ℕ} {c₂ : Cursor} {t₃ : Taken} (k : Signed s t.next (code ":") (Past v₂ c₂)) (k₃ : Takes s c₂ t₃) where
+    module _ {c₂ : Cursor} {t₃ : Taken} (k : Signed s t.next (code ":") (Ok c₂)) (k₃ : Takes s c₂ t₃) where
       behind_colon :
           (ts : List Token) (K : Stack) (ns : List (List ℕ)) (bs : List (List (List ℕ))) → Ahead s t ts
           → Reached s ts (expect.a_label ∷ K) (counted a_label t.next.nodes ns (words_of s a (node * room + list_from) n ∷ bs))
@@ -173,14 +172,17 @@ module _ {s : List ℕ} (l : length s ≤ text_most) where
           → suc (length bs) ≡ deep
           → TypeGot s a b a₁ b₁ t₃ (tokens_behind s c₂.at) (more_labels ∷ K) nothing_new ns (labels_here s a (node * room + list_from) t n ∷ bs) o
       label_type_told ts K ns bs f h r q =
-          f.told (tokens_behind s c₂.at) a_type (more_labels ∷ K) (more_labels ∷ K) nothing_new ns (labels_here s a (node * room + list_from) t n ∷ bs) k₃.ahead (acts_self (a_type ∷ more_labels ∷ K) (tokens_behind s c₂.at)) (behind_colon ts K ns bs h r).0 alone q
+          f.told (tokens_behind s c₂.at) a_type (more_labels ∷ K) (more_labels ∷ K) nothing_new ns
+          (labels_here s a (node * room + list_from) t n ∷ bs) k₃.ahead (acts_self (a_type ∷ more_labels ∷ K) (tokens_behind s c₂.at))
+          (behind_colon ts K ns bs h r).0 alone q
 
       pub label_type_refused :
-          {a₁ b₁ : List ℕ} {q p : ℕ} → TypeRead s a b a₁ b₁ t₃ deep (Refused q p) → LabelRead s a b a₁ b₁ t deep node n (Refused q p)
+          {a₁ b₁ : List ℕ} {no : Refusal} → TypeRead s a b a₁ b₁ t₃ deep (Err no) → LabelRead s a b a₁ b₁ t deep node n (Err no)
       label_type_refused f = refused-label (λ ts K ns bs h r q. refused_type (label_type_told ts K ns bs f h r q))
 
       -- the label's row is written
-      module _ {a₁ b₁ : List ℕ} {link : ℕ} {c₃ : Cursor} (i : node < t.next.nodes) (few : c₃.nodes ≤ text_nodes_most) (long : length a₁ ≡ text_most) (a₂ : List ℕ) (st : a₂ ≡ stored_label a₁ node n t link) where
+      module _ {a₁ b₁ : List ℕ} {link : ℕ} {c₃ : Cursor} (i : node < t.next.nodes) (few : c₃.nodes ≤ text_nodes_most) (long : length a₁ ≡ text_most)
+          (a₂ : List ℕ) (st : a₂ ≡ stored_label a₁ node n t link) where
         row-past :
             {K L : Stack} {ns : List (List ℕ)} {bs bs₁ : List (List (List ℕ))} (u : Token) (x : Ty) → t.at ≡ u.at → t.len ≡ length u.spelled
             → PastType s a b a₁ b₁ t₃ (tokens_behind s c₂.at) L nothing_new ns bs₁ x link c₃
@@ -224,7 +226,7 @@ module _ {s : List ℕ} (l : length s ≤ text_most) where
             (words_same s a (stored_label a₁ node n t link) (node * room + list_from) n (λ j e f.
             row_apart a₁ (node * room + list_from + n * row) t.at t.len link j (λ o. omega arith) (λ o. omega arith) (λ o. omega arith) ∙ kept.each j (omega arith))))
 
-        pub label_done : TypeRead s a b a₁ b₁ t₃ deep (Past link c₃) → {v : ℕ} → LabelRead s a b a₂ b₁ t deep node n (Past v c₃)
+        pub label_done : TypeRead s a b a₁ b₁ t₃ deep (got link c₃) → LabelRead s a b a₂ b₁ t deep node n (Ok c₃)
         label_done f =
             record {
               few = λ e. g.few;

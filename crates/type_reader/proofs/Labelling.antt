@@ -1,11 +1,16 @@
 -- What finding a word among rows tells of each row.
 -- Assumes nothing.
-use mathlib.Core.Bool.{true, false}
+use mathlib.Core.Bool.{Bool, true, false}
 use mathlib.Core.List.{List}
-use mathlib.Core.Path.{◌≡◌, ap, ap₂, ◌∙◌}
+use mathlib.Core.Path.{◌≡◌, refl, sym, ap, ap₂, ◌∙◌}
 use Prim.Native.Nat.{ℕ, ◌+◌, ◌*◌, ◌<◌, ◌≤◌}
 use native.Mathlib.Omega.{arith}
+use lib.Dec.{ltb}
 use lib.ListN.{get_or}
+use borrow.Author.Tests.{ltb-true, ltb-false}
+use Rattle.std.specs.Prelude.{Option, is_some}
+use Rattle.words.specs.Found.{found}
+use Rattle.words.proofs.Found.{found_tested}
 use Rattle.rules.specs.Basics.{part, same}
 use Rattle.rules.proofs.Basics.{first_found, part_at}
 use Rattle.flat.specs.Flat.{row, word_of, word_found}
@@ -27,10 +32,16 @@ module _ (s a : List ℕ) (i m n : ℕ) (room : n * row ≤ m) (w : List ℕ) wh
   no-row r e l j h = let f = first_found n (λ j. same (part s (get_or (part a i m) (j * row) 0) (get_or (part a i m) (j * row + 1) 0)) w) in
       rw (← same_word j h) ((rw (← e) at f).before j (omega arith))
 
-  -- the word looked for is w
-  module _ (r : ℕ) (v : List ℕ) (e : r ≡ word_found s (part a i m) n v) (d : v ≡ w) where
-    pub row_found : r < n → same (word_of s a i r) w ≡ true
-    row_found l = row_here r (rw d at e) l
+  -- the word looked for is w, and b is whether it was found
+  module _ {r : Option ℕ} {b : Bool} {v : List ℕ} (e : r ≡ found n (word_found s (part a i m) n v)) (t : b ≡ is_some r) (d : v ≡ w) where
+    abbrev place : ℕ
+    place = word_found s (part a i m) n w
 
-    pub rows_other : n ≤ r → (j : ℕ) → j < n → same (word_of s a i j) w ≡ false
-    rows_other l j h = no-row r (rw d at e) l j h
+    tested : b ≡ ltb place n
+    tested = found_tested n place (rw d at e) t
+
+    pub row_found : b ≡ true → (j : ℕ) × (j < n) × (same (word_of s a i j) w ≡ true)
+    row_found h = let l = ltb-true _ _ (sym tested ∙ h) in (place, l, row_here place refl l)
+
+    pub rows_other : b ≡ false → (j : ℕ) → j < n → same (word_of s a i j) w ≡ false
+    rows_other h = no-row place refl (ltb-false _ _ (sym tested ∙ h))

@@ -2,9 +2,11 @@
 pub mod Labelling
 pub mod Sorts
 pub mod Ending
+pub mod Opening
 pub mod Took
 pub mod Signs
 pub mod Frames
+pub mod Handed
 pub mod Begins
 pub mod Standing
 pub mod Nodes
@@ -15,6 +17,7 @@ pub mod Lists
 pub mod Items
 pub mod ItemTurns
 pub mod LabelSteps
+pub mod KindNumbers
 pub mod Labelled
 pub mod LabelTurns
 pub mod Safe

@@ -17,7 +17,7 @@ use Rattle.rules.proofs.Machine.{Stack, on, step}
 use Rattle.rules.proofs.Reached.{Reached}
 use Rattle.rules.proofs.OneToken.{counted, next_symbol, nodes_same, brackets_plain, brackets_shut}
 use Rattle.rules.proofs.TokensBehind.{tokens_behind}
-use Rattle.cursor.specs.Takes.{Takes}
+use Rattle.cursor.specs.Takes.{Takes, kind_of}
 use Rattle.cursor.specs.declared.Cursor.{Cursor}
 use Rattle.cursor.specs.declared.Taken.{Taken}
 use Rattle.flat.specs.Flat.{room, used, Holds, Stored, Kept, KeptBut}
@@ -34,7 +34,10 @@ closed_room : {nx : Begins} {es : List (List ℕ)} {bs : List (List (List ℕ))}
 closed_room alone w = refl
 closed_room (as_item l) w = refl
 
-module _ {s : List ℕ} {c : Cursor} {t : Taken} (k : Takes s c t) {b : ℕ} (e : t.kind ≡ b) {J K : Stack} {nx : Begins} (ns es : List (List ℕ)) (bs : List (List (List ℕ))) (fits : TypeRoom nx (es ∷ bs)) (r : Reached s (tokens_behind s c.at) J (counted nx c.nodes ns (es ∷ bs))) (leads : step J (one_byte b) ≡ on K) where
+module _
+    {s : List ℕ} {c : Cursor} {t : Taken} (k : Takes s c t) {b : ℕ} (e : kind_of t ≡ b) {J K : Stack} {nx : Begins} (ns es : List (List ℕ))
+    (bs : List (List (List ℕ))) (fits : TypeRoom nx (es ∷ bs)) (r : Reached s (tokens_behind s c.at) J (counted nx c.nodes ns (es ∷ bs)))
+    (leads : step J (one_byte b) ≡ on K) where
   -- the closing bracket
   pub list_closes :
       Closing b
@@ -47,13 +50,19 @@ module _ {s : List ℕ} {c : Cursor} {t : Taken} (k : Takes s c t) {b : ℕ} (e 
       ∙ rw (p.no_opening, p.no_node) refl in
       let g = took_counted d nx c.nodes ns (es ∷ bs) r leads f in (
         rw k.nodes
-            (rw (p.goes_on, nodes_same (one_byte b) c.nodes p.no_node, brackets_shut (one_byte b) (entries_after nx d.token.spelled (es ∷ bs)) p.no_opening p.closing, names_room fits d.token.spelled ns, closed_room fits d.token.spelled) at g),
+            (rw (
+              p.goes_on,
+              nodes_same (one_byte b) c.nodes p.no_node,
+              brackets_shut (one_byte b) (entries_after nx d.token.spelled (es ∷ bs)) p.no_opening p.closing,
+              names_room fits d.token.spelled ns,
+              closed_room fits d.token.spelled,
+            ) at g),
         took_symbols d,
       )
 
 -- a mark between two entries
 pub mark_taken :
-    {s : List ℕ} {c : Cursor} {t : Taken} (k : Takes s c t) {b : ℕ} (e : t.kind ≡ b) {J K : Stack} (ns : List (List ℕ)) (bs : List (List (List ℕ)))
+    {s : List ℕ} {c : Cursor} {t : Taken} (k : Takes s c t) {b : ℕ} (e : kind_of t ≡ b) {J K : Stack} (ns : List (List ℕ)) (bs : List (List (List ℕ)))
     → Plain b → Reached s (tokens_behind s c.at) J (counted nothing_new c.nodes ns bs) → step J (one_byte b) ≡ on K
     → Reached s (tokens_behind s t.next.at) K (counted (next_symbol (one_byte b)) t.next.nodes ns bs)
     × (symbols (tokens_behind s c.at) ≡ one_byte b ∷ symbols (tokens_behind s t.next.at))

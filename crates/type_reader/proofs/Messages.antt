@@ -13,25 +13,26 @@ use Rattle.rules.specs.Tokens.{Token, Symbol, one_byte, symbols}
 use Rattle.rules.specs.Notation.{Way, Ty, message, Items, write_items}
 use Rattle.rules.specs.Numbers.{text_most, text_nodes_most, items_most}
 use Rattle.rules.specs.Numbering.{behind, behind_items}
-use Rattle.rules.specs.Refusals.{Begins, an_item, nothing_new}
+use Rattle.rules.specs.Refusals.{number, Begins, an_item, nothing_new}
 use Rattle.rules.proofs.Links.{behind_more, behind_items_more}
 use Rattle.rules.proofs.Machine.{a_type, this, some_items, Stack, open_byte}
 use Rattle.rules.proofs.Reached.{Reached, Refuses}
 use Rattle.rules.proofs.OneToken.{counted}
 use Rattle.rules.proofs.TokensBehind.{tokens_behind}
-use Rattle.cursor.specs.Takes.{Takes}
+use Rattle.cursor.specs.Takes.{Takes, kind_of}
 use Rattle.cursor.specs.declared.Cursor.{Cursor}
 use Rattle.cursor.specs.declared.Taken.{Taken}
 use Rattle.flat.specs.Flat.{room, list_from, message_number, raw, raw_items, items_long, used, used_items, Holds, Stored, StoredItems, Kept}
-use Rattle.type_reader.specs.Leaves.{Begun, behind_node, Opened, Signed, stored_head}
+use Rattle.type_reader.specs.Leaves.{Got, got, behind_node, Opened, NodeOpened, Signed, stored_head}
 use Rattle.type_reader.specs.Answers.{Acts, PastType, TypeGot, TypeRead, PastItems, ItemsGot, ItemsRead, message_byte, alone}
 use Rattle.type_reader.specs.Answers as answers
-use Rattle.type_reader.specs.declared.Got.{Got}
-use Rattle.type_reader.specs.declared.Got.TheVariants.{Past, Refused}
+use Rattle.std.specs.Prelude.{Ok, Err}
+use Rattle.table.specs.declared.answers.Refusal.{Refusal}
 use Rattle.type_reader.proofs.Took.{took_symbols}
 use Rattle.type_reader.proofs.Signs.{sign-refused, sign-past}
-use Rattle.type_reader.proofs.Nodes.{Shape, inside_deep, sign_took, node_full, no_bracket, behind_bracket}
-use Rattle.type_reader.proofs.Standing.{Standing, inside, type_read, message_begins, message_step, message_signs, message_bytes, open_items, items_next, semicolon, semicolon_next, opened_counts, signed_counts, kept_then, kept_same, same_then}
+use Rattle.type_reader.proofs.Nodes.{Shape, inside_deep, sign_took, node_unopened, behind_bracket}
+use Rattle.type_reader.proofs.Standing.{Standing, inside, type_read, message_begins, message_step, message_signs, message_bytes, open_items}
+use Rattle.type_reader.proofs.Standing.{items_next, semicolon, semicolon_next, opened_counts, signed_counts, kept_then, kept_same, same_then}
 use Rattle.type_reader.proofs.Frames.{Same, same_within, holds_same, items_length, items_same, stored_same, used_items_more, head_other, head_kept, head_holds}
 
 pub holds_from : {a : List ℕ} {i : ℕ} (j : ℕ) {xs : List ℕ} → Holds a i xs → i ≡ j → Holds a j xs
@@ -74,18 +75,18 @@ message_written a₁ b₁ a₂ b₂ d xs x k u q m list few inner kept kept_uses
 
 -- an answer, taken apart
 pub refused_type :
-    {s a b a' b' : List ℕ} {t : Taken} {ts : List Token} {K : Stack} {nx : Begins} {ns : List (List ℕ)} {bs : List (List (List ℕ))} {m p : ℕ}
-    → TypeGot s a b a' b' t ts K nx ns bs (Refused m p) → Refuses s m p
+    {s a b a' b' : List ℕ} {t : Taken} {ts : List Token} {K : Stack} {nx : Begins} {ns : List (List ℕ)} {bs : List (List (List ℕ))} {no : Refusal}
+    → TypeGot s a b a' b' t ts K nx ns bs (Err no) → Refuses s (number no.kind) no.place
 refused_type (answers.refused r) = r
 
 pub past_type :
     {s a b a' b' : List ℕ} {t : Taken} {ts : List Token} {K : Stack} {nx : Begins} {ns : List (List ℕ)} {bs : List (List (List ℕ))} {v : ℕ} {c : Cursor}
-    → TypeGot s a b a' b' t ts K nx ns bs (Past v c) → (x : Ty) × PastType s a b a' b' t ts K nx ns bs x v c
+    → TypeGot s a b a' b' t ts K nx ns bs (got v c) → (x : Ty) × PastType s a b a' b' t ts K nx ns bs x v c
 past_type (answers.past x p) = (x, p)
 
 pub refused_items :
-    {s a b a' b' : List ℕ} {W : Items → List Symbol → Type 0} {K : Stack} {ns : List (List ℕ)} {bs : List (List (List ℕ))} {k u node n m p : ℕ}
-    → ItemsGot s a b a' b' W K ns bs k u node n (Refused m p) → Refuses s m p
+    {s a b a' b' : List ℕ} {W : Items → List Symbol → Type 0} {K : Stack} {ns : List (List ℕ)} {bs : List (List (List ℕ))} {k u node n : ℕ} {no : Refusal}
+    → ItemsGot s a b a' b' W K ns bs k u node n (Err no) → Refuses s (number no.kind) no.place
 refused_items (answers.refused r) = r
 
 pub record ItemsRight (s a b a' b' : List ℕ) (W : Items → List Symbol → Type 0) (K : Stack) (ns : List (List ℕ)) (bs : List (List (List ℕ))) (k u node n v : ℕ) (c : Cursor) : Type 0 where
@@ -97,7 +98,7 @@ pub record ItemsRight (s a b a' b' : List ℕ) (W : Items → List Symbol → Ty
 
 pub items_right :
     {s a b a' b' : List ℕ} {W : Items → List Symbol → Type 0} {K : Stack} {ns : List (List ℕ)} {bs : List (List (List ℕ))} {k u node n v : ℕ} {c : Cursor}
-    → ItemsGot s a b a' b' W K ns bs k u node n (Past v c) → ItemsRight s a b a' b' W K ns bs k u node n v c
+    → ItemsGot s a b a' b' W K ns bs k u node n (got v c) → ItemsRight s a b a' b' W K ns bs k u node n v c
 items_right (answers.past xs w q f r) = record { items = xs; wrote = w; count = q; few = f; right = r }
 
 pub acts_self : (J : Stack) (ts : List Token) → Acts J J ts
@@ -107,15 +108,12 @@ acts_self J (t ∷ ts) = refl
 message_shape : (d : Way) → Shape (message_byte d) (open_byte d) (λ K. some_items d ∷ this (code ";") ∷ a_type ∷ K)
 message_shape d = record { byte = message_bytes d; node = message_begins d; bracket = open_items d; leads = message_step d }
 
-module _ {s : List ℕ} (l : length s ≤ text_most) (d : Way) {t : Taken} (e : t.kind ≡ message_byte d) {deep : ℕ} where
-  pub message_full : {a b a' b' : List ℕ} {m p : ℕ} → Begun t (Refused m p) → TypeRead s a b a' b' t deep (Refused m p)
-  message_full h = node_full l (message_shape d) e h
+module _ {s : List ℕ} (l : length s ≤ text_most) (d : Way) {t : Taken} (e : kind_of t ≡ message_byte d) {deep : ℕ} where
+  pub message_unopened : {a b a' b' : List ℕ} {no : Refusal} → NodeOpened s t (open_byte d) deep (Err no) → TypeRead s a b a' b' t deep (Err no)
+  message_unopened h = node_unopened l (message_shape d) e h
 
   module _ (q : t.next.nodes < text_nodes_most) where
-    pub message_unopened : {a b a' b' : List ℕ} {m p : ℕ} → Opened s (behind_node t.next) (open_byte d) deep (Refused m p) → TypeRead s a b a' b' t deep (Refused m p)
-    message_unopened h = no_bracket l (message_shape d) e q h
-
-    module _ {v₂ : ℕ} {c₂ : Cursor} (o : Opened s (behind_node t.next) (open_byte d) deep (Past v₂ c₂)) where
+    module _ {c₂ : Cursor} (o : Opened s (behind_node t.next) (open_byte d) deep (Ok c₂)) where
       -- behind the bracket
       behind_opening :
           (z : Standing s t deep)
@@ -126,12 +124,12 @@ module _ {s : List ℕ} (l : length s ≤ text_most) (d : Way) {t : Taken} (e : 
           ((rw (items_next d) at r).0, r.1)
 
       pub message_items_refused :
-          {a b a₁ b₁ : List ℕ} {node m p : ℕ} → ItemsRead s a b a₁ b₁ d c₂ (deep + 1) node (Refused m p) → TypeRead s a b a₁ b₁ t deep (Refused m p)
+          {a b a₁ b₁ : List ℕ} {node : ℕ} {no : Refusal} → ItemsRead s a b a₁ b₁ d c₂ (deep + 1) node (Err no) → TypeRead s a b a₁ b₁ t deep (Err no)
       message_items_refused f =
           type_read (λ z.
           answers.refused (refused_items (f.told (this (code ";") ∷ a_type ∷ z.K) z.ns (inside z) (behind_opening z).0 (omega (arith, inside_deep z)))))
 
-      module _ {a b a₁ b₁ : List ℕ} {node n : ℕ} {c₃ : Cursor} (f : ItemsRead s a b a₁ b₁ d c₂ (deep + 1) node (Past n c₃)) where
+      module _ {a b a₁ b₁ : List ℕ} {node n : ℕ} {c₃ : Cursor} (f : ItemsRead s a b a₁ b₁ d c₂ (deep + 1) node (got n c₃)) where
         -- behind the items
         behind_items_read :
             (z : Standing s t deep)
@@ -139,11 +137,11 @@ module _ {s : List ℕ} (l : length s ≤ text_most) (d : Way) {t : Taken} (e : 
         behind_items_read z =
             items_right (f.told (this (code ";") ∷ a_type ∷ z.K) z.ns (inside z) (behind_opening z).0 (omega (arith, inside_deep z)))
 
-        pub message_semicolon_refused : {a' b' : List ℕ} {m p : ℕ} → Signed s c₃ (code ";") (Refused m p) → TypeRead s a b a' b' t deep (Refused m p)
+        pub message_semicolon_refused : {a' b' : List ℕ} {no : Refusal} → Signed s c₃ (code ";") (Err no) → TypeRead s a b a' b' t deep (Err no)
         message_semicolon_refused g =
             type_read (λ z. answers.refused (sign-refused l c₃.nodes z.ns (inside z) (omega arith) g (behind_items_read z).right.reached))
 
-        module _ {v₄ : ℕ} {c₄ : Cursor} {t₅ : Taken} (g : Signed s c₃ (code ";") (Past v₄ c₄)) (k : Takes s c₄ t₅) where
+        module _ {c₄ : Cursor} {t₅ : Taken} (g : Signed s c₃ (code ";") (Ok c₄)) (k : Takes s c₄ t₅) where
           -- behind the semicolon
           behind_semicolon :
               (z : Standing s t deep)
@@ -161,7 +159,7 @@ module _ {s : List ℕ} (l : length s ≤ text_most) (d : Way) {t : Taken} (e : 
               y.told (tokens_behind s c₄.at) a_type z.K z.K nothing_new z.ns (inside z) k.ahead (acts_self (a_type ∷ z.K) (tokens_behind s c₄.at)) (behind_semicolon z).0 alone (inside_deep z)
 
           pub message_type_refused :
-              {a₂ b₂ : List ℕ} {m p : ℕ} → TypeRead s a₁ b₁ a₂ b₂ t₅ deep (Refused m p) → TypeRead s a b a₂ b₂ t deep (Refused m p)
+              {a₂ b₂ : List ℕ} {no : Refusal} → TypeRead s a₁ b₁ a₂ b₂ t₅ deep (Err no) → TypeRead s a b a₂ b₂ t deep (Err no)
           message_type_refused y = type_read (λ z. answers.refused (refused_type (type_told z y)))
 
           module _ {a₂ b₂ : List ℕ} {link : ℕ} {c₅ : Cursor} (m : length a₂ ≡ text_most) (nd : node ≡ t.next.nodes) where
@@ -204,7 +202,7 @@ module _ {s : List ℕ} (l : length s ≤ text_most) (d : Way) {t : Taken} (e : 
                 }
 
             pub message_done :
-                {a₃ : List ℕ} → TypeRead s a₁ b₁ a₂ b₂ t₅ deep (Past link c₅) → a₃ ≡ stored_head a₂ node (message_number d) n link
-                → TypeRead s a b a₃ b₂ t deep (Past node c₅)
+                {a₃ : List ℕ} → TypeRead s a₁ b₁ a₂ b₂ t₅ deep (got link c₅) → a₃ ≡ stored_head a₂ node (message_number d) n link
+                → TypeRead s a b a₃ b₂ t deep (got node c₅)
             message_done {a₃} y st =
                 type_read (λ z. let w = past_type (type_told z y) in answers.past (message d (behind_items_read z).items w.0) (done_past z w.0 w.1 a₃ st))

@@ -13,24 +13,27 @@ use lib.ListN.{length}
 use Rattle.rules.specs.Words.{word_most}
 use Rattle.rules.specs.Tokens.{Token, Symbol, word, reserved_word, one_byte, symbol, symbols}
 use Rattle.rules.specs.Numbers.{text_most, brackets_most}
-use Rattle.rules.specs.Refusals.{nothing_new, Seen}
+use Rattle.rules.specs.Refusals.{number, nothing_new, Seen}
 use Rattle.rules.specs.computed.Reading.{token_fault, lowest}
 use Rattle.rules.proofs.Machine.{this, Stack, stuck, look, step}
 use Rattle.rules.proofs.Reached.{Reached, Refuses}
 use Rattle.rules.proofs.Taken.{this_step}
 use Rattle.rules.proofs.OneToken.{counted, opens_symbol, closes_symbol, begins_symbol, next_symbol, nodes_same, brackets_plain, brackets_opened}
 use Rattle.rules.proofs.TokensBehind.{tokens_behind}
-use Rattle.cursor.specs.Takes.{Ahead, Takes, reserved_kind, word_kind}
+use Rattle.cursor.specs.Takes.{Ahead, Takes, reserved_kind, word_kind, kind_of}
 use Rattle.cursor.specs.declared.Cursor.{Cursor}
 use Rattle.cursor.specs.declared.Taken.{Taken}
 use Rattle.cursor.proofs.Symbols.{kind_of_byte}
 use Rattle.type_reader.specs.Leaves.{Signed, signed, not_signed, Opened, opened, too_deep, not_opened}
 use Rattle.type_reader.specs.Answers.{alone}
-use Rattle.type_reader.specs.declared.Got.TheVariants.{Past, Refused}
+use Rattle.std.specs.Prelude.{Ok, Err}
+use Rattle.table.specs.declared.answers.Refusal.{Refusal}
 use Rattle.type_reader.proofs.Took.{Took, took_byte, not_here, took_symbols, took_counted, took_fault, fault_here}
 
 -- a token other than a word is short
-pub short_token : {s : List ℕ} {t : Taken} {ts : List Token} {y : Token → Symbol} → Ahead s t ts → (k : Took s t ts y) → (t.kind ≡ word_kind → ⊥) → length k.token.spelled ≤ word_most
+pub short_token :
+    {s : List ℕ} {t : Taken} {ts : List Token} {y : Token → Symbol} → Ahead s t ts → (k : Took s t ts y) → (kind_of t ≡ word_kind → ⊥)
+    → length k.token.spelled ≤ word_most
 short_token {s} {t} {ts} {y} h k n =
     elim h.short [ inl e ↦ absurd (n e) | inr l ↦ omega (arith, k.long) ]
 
@@ -48,7 +51,7 @@ this_stuck b K (one_byte a) n = go (eqb a b) refl
 -- the token t is not the byte b
 pub other_byte :
     {s : List ℕ} {t : Taken} {ts : List Token} {b : ℕ} {K : Stack} {z : Seen} → length s ≤ text_most → b < reserved_kind → Ahead s t ts
-    → (t.kind ≡ b → ⊥) → Reached s ts (this b ∷ K) z → Refuses s 2 t.at
+    → (kind_of t ≡ b → ⊥) → Reached s ts (this b ∷ K) z → Refuses s 2 t.at
 other_byte {s} {t} {ts} {b} {K} {z} l m h n r =
     not_here h l r (λ u k e. this_stuck b K (symbol u) (λ d. n (h.is ∙ rw (e, d) (kind_of_byte b m))))
 
@@ -60,11 +63,11 @@ pub record Plain (b : ℕ) : Type 0 where
   pub no_node : begins_symbol (one_byte b) ≡ false
 
 module _ {s : List ℕ} (l : length s ≤ text_most) {c : Cursor} {b : ℕ} {K : Stack} (n : ℕ) (ns : List (List ℕ)) (bs : List (List (List ℕ))) where
-  pub sign-refused : {m p : ℕ} → b < reserved_kind → Signed s c b (Refused m p) → Reached s (tokens_behind s c.at) (this b ∷ K) (counted nothing_new n ns bs) → Refuses s m p
+  pub sign-refused : {no : Refusal} → b < reserved_kind → Signed s c b (Err no) → Reached s (tokens_behind s c.at) (this b ∷ K) (counted nothing_new n ns bs) → Refuses s (number no.kind) no.place
   sign-refused q (not_signed t e) r = other_byte l q t.ahead e r
 
   sign_here :
-      {t : Taken} → Plain b → Takes s c t → t.kind ≡ b → Reached s (tokens_behind s c.at) (this b ∷ K) (counted nothing_new n ns bs)
+      {t : Taken} → Plain b → Takes s c t → kind_of t ≡ b → Reached s (tokens_behind s c.at) (this b ∷ K) (counted nothing_new n ns bs)
       → Reached s (tokens_behind s t.next.at) K (counted (next_symbol (one_byte b)) n ns bs)
       × (symbols (tokens_behind s c.at) ≡ one_byte b ∷ symbols (tokens_behind s t.next.at))
   sign_here {t} p k e r =
@@ -76,7 +79,7 @@ module _ {s : List ℕ} (l : length s ≤ text_most) {c : Cursor} {b : ℕ} {K :
       (rw (nodes_same (one_byte b) n p.no_node, brackets_plain (one_byte b) bs p.no_opening p.no_closing) at g, took_symbols d)
 
   pub sign-past :
-      {v : ℕ} {c' : Cursor} → Plain b → Signed s c b (Past v c') → Reached s (tokens_behind s c.at) (this b ∷ K) (counted nothing_new n ns bs)
+      {c' : Cursor} → Plain b → Signed s c b (Ok c') → Reached s (tokens_behind s c.at) (this b ∷ K) (counted nothing_new n ns bs)
       → Reached s (tokens_behind s c'.at) K (counted (next_symbol (one_byte b)) n ns bs)
       × (symbols (tokens_behind s c.at) ≡ one_byte b ∷ symbols (tokens_behind s c'.at))
   sign-past p (signed t e) r = sign_here p t e r
@@ -89,7 +92,7 @@ pub record Opening (b : ℕ) : Type 0 where
 
 bracket_fault :
     {s : List ℕ} {c : Cursor} {t : Taken} {b : ℕ} (o : Opening b) (n : ℕ) (ns : List (List ℕ)) (bs : List (List (List ℕ))) (k : Takes s c t)
-    (e : t.kind ≡ b) (f : Bool) → leb brackets_most (length bs) ≡ f
+    (e : kind_of t ≡ b) (f : Bool) → leb brackets_most (length bs) ≡ f
     → token_fault (counted nothing_new n ns bs) (took_byte k.ahead b e o.byte).token ≡ lowest false f false none
 bracket_fault {b} o n ns bs k e f i =
     let d = took_byte k.ahead b e o.byte in
@@ -98,13 +101,13 @@ bracket_fault {b} o n ns bs k e f i =
 
 module _ {s : List ℕ} (l : length s ≤ text_most) {c : Cursor} {b deep : ℕ} {K : Stack} (o : Opening b) (n : ℕ) (ns : List (List ℕ)) (bs : List (List (List ℕ))) (h : length bs ≡ deep) where
   pub bracket_refused :
-      {m p : ℕ} → Opened s c b deep (Refused m p) → Reached s (tokens_behind s c.at) (this b ∷ K) (counted nothing_new n ns bs) → Refuses s m p
+      {no : Refusal} → Opened s c b deep (Err no) → Reached s (tokens_behind s c.at) (this b ∷ K) (counted nothing_new n ns bs) → Refuses s (number no.kind) no.place
   bracket_refused (not_opened t e) r = other_byte l o.byte t.ahead e r
   bracket_refused (too_deep t e j) r =
       took_fault (took_byte t.ahead b e o.byte) l r (this_step b K) (bracket_fault o n ns bs t e true (le-leb brackets_most (length bs) (omega arith)))
 
   bracket_here :
-      {t : Taken} → Takes s c t → t.kind ≡ b → deep < brackets_most → Reached s (tokens_behind s c.at) (this b ∷ K) (counted nothing_new n ns bs)
+      {t : Taken} → Takes s c t → kind_of t ≡ b → deep < brackets_most → Reached s (tokens_behind s c.at) (this b ∷ K) (counted nothing_new n ns bs)
       → Reached s (tokens_behind s t.next.at) K (counted (next_symbol (one_byte b)) n ns ([] ∷ bs))
       × (symbols (tokens_behind s c.at) ≡ one_byte b ∷ symbols (tokens_behind s t.next.at))
   bracket_here {t} k e j r =
@@ -113,7 +116,7 @@ module _ {s : List ℕ} (l : length s ≤ text_most) {c : Cursor} {b deep : ℕ}
       (rw (nodes_same (one_byte b) n o.no_node, brackets_opened (one_byte b) bs o.opening) at g, took_symbols d)
 
   pub bracket_past :
-      {v : ℕ} {c' : Cursor} → Opened s c b deep (Past v c') → Reached s (tokens_behind s c.at) (this b ∷ K) (counted nothing_new n ns bs)
+      {c' : Cursor} → Opened s c b deep (Ok c') → Reached s (tokens_behind s c.at) (this b ∷ K) (counted nothing_new n ns bs)
       → Reached s (tokens_behind s c'.at) K (counted (next_symbol (one_byte b)) n ns ([] ∷ bs))
       × (symbols (tokens_behind s c.at) ≡ one_byte b ∷ symbols (tokens_behind s c'.at))
   bracket_past (opened t e j) r = bracket_here t e j r

@@ -18,10 +18,9 @@ use Rattle.cursor.specs.Takes.{Ahead, reserved_kind}
 use Rattle.cursor.specs.declared.Cursor.{Cursor}
 use Rattle.cursor.specs.declared.Taken.{Taken}
 use Rattle.flat.specs.Flat.{Kept}
-use Rattle.type_reader.specs.Leaves.{Signed, signed, Opened, opened}
+use Rattle.type_reader.specs.Leaves.{Got, Signed, signed, Opened, opened}
 use Rattle.type_reader.specs.Answers.{Acts, first_spelled, TypeRoom, TypeGot, TypeRead, message_byte, choice_byte}
-use Rattle.type_reader.specs.declared.Got.{Got}
-use Rattle.type_reader.specs.declared.Got.TheVariants.{Past}
+use Rattle.std.specs.Prelude.{Ok}
 use Rattle.type_reader.proofs.Signs.{Plain, Opening}
 use Rattle.type_reader.proofs.Frames.{Same}
 
@@ -131,10 +130,10 @@ unfolding one_of first
 colon_next = refl
 
 -- a byte that is taken counts no node and no use
-pub opened_counts : {s : List ℕ} {c : Cursor} {b deep v : ℕ} {c' : Cursor} → Opened s c b deep (Past v c') → (c'.nodes ≡ c.nodes) × (c'.uses ≡ c.uses)
+pub opened_counts : {s : List ℕ} {c : Cursor} {b deep : ℕ} {c' : Cursor} → Opened s c b deep (Ok c') → (c'.nodes ≡ c.nodes) × (c'.uses ≡ c.uses)
 opened_counts (opened k e l) = (k.nodes, k.uses)
 
-pub signed_counts : {s : List ℕ} {c : Cursor} {b v : ℕ} {c' : Cursor} → Signed s c b (Past v c') → (c'.nodes ≡ c.nodes) × (c'.uses ≡ c.uses)
+pub signed_counts : {s : List ℕ} {c : Cursor} {b : ℕ} {c' : Cursor} → Signed s c b (Ok c') → (c'.nodes ≡ c.nodes) × (c'.uses ≡ c.uses)
 signed_counts (signed k e) = (k.nodes, k.uses)
 
 -- areas one behind the other

@@ -12,15 +12,16 @@ use lib.ListN.{length}
 use Rattle.rules.specs.Words.{word_most, reserved_words}
 use Rattle.rules.specs.Tokens.{Token, Symbol, word, reserved_word, one_byte, symbol, symbols}
 use Rattle.rules.specs.Numbers.{text_most, text_nodes_most, items_most, brackets_most}
-use Rattle.rules.specs.Refusals.{Begins, a_definition, a_label, an_item, nothing_new, Seen, innermost, entries_after, names_after, seen_after, unexpected}
+use Rattle.rules.specs.Refusals.{number, Begins, a_definition, a_label, an_item, nothing_new, Seen, innermost, entries_after, names_after, seen_after, unexpected}
 use Rattle.rules.specs.computed.Reading.{token_fault, lowest}
 use Rattle.rules.proofs.Machine.{Expect, Stack, on, stuck, step}
 use Rattle.rules.proofs.Reached.{Reached, Refuses, reached_on, reached_fault}
 use Rattle.rules.proofs.OneToken.{counted, opens_symbol, begins_symbol, nodes_symbol, next_symbol, brackets_symbol, seen-symbol, fault_symbol, refused_here}
 use Rattle.rules.proofs.TokensBehind.{tokens_behind}
-use Rattle.cursor.specs.Takes.{Ahead, reserved_kind, word_kind}
+use Rattle.cursor.specs.Takes.{Ahead, reserved_kind, word_kind, kind_of}
 use Rattle.cursor.specs.declared.Taken.{Taken}
 use Rattle.cursor.proofs.Symbols.{First, first_byte, first_reserved, first_word}
+use Rattle.table.specs.declared.answers.RefusalKind.{RefusalKind}
 use Rattle.type_reader.specs.Answers.{first_spelled, TypeRoom, alone, as_item}
 
 -- the token t stands first in ts, and its symbol is y
@@ -41,14 +42,14 @@ took {s} {t} {ts} {y} h f = go ts h f.token f.rest f.split f.means
         record { token = v; split = ap (λ r. v ∷ r) h.behind; means = rw d m; stands = h.stands; long = h.long }
 
 module _ {s : List ℕ} {t : Taken} {ts : List Token} (h : Ahead s t ts) where
-  pub took_byte : (b : ℕ) → t.kind ≡ b → b < reserved_kind → Took s t ts (λ u. one_byte b)
-  took_byte b e l = took h (first_byte ts t.kind b h.is e l)
+  pub took_byte : (b : ℕ) → kind_of t ≡ b → b < reserved_kind → Took s t ts (λ u. one_byte b)
+  took_byte b e l = took h (first_byte ts (kind_of t) b h.is e l)
 
-  pub took_reserved : (i : ℕ) → t.kind ≡ reserved_kind + i → i < length reserved_words → Took s t ts (λ u. reserved_word i)
-  took_reserved i e l = took h (first_reserved ts t.kind i h.is e l)
+  pub took_reserved : (i : ℕ) → kind_of t ≡ reserved_kind + i → i < length reserved_words → Took s t ts (λ u. reserved_word i)
+  took_reserved i e l = took h (first_reserved ts (kind_of t) i h.is e l)
 
-  pub took_word : t.kind ≡ word_kind → Took s t ts word
-  took_word e = took h (first_word ts t.kind h.is e)
+  pub took_word : kind_of t ≡ word_kind → Took s t ts word
+  took_word e = took h (first_word ts (kind_of t) h.is e)
 
   -- a token that cannot stand here, or the end
   pub not_here :
@@ -69,8 +70,8 @@ module _ {s : List ℕ} {t : Taken} {ts : List Token} {y : Token → Symbol} (k 
   took_on {J} {L} r e f = reached_on (rw k.split at r) (rw k.means e) f
 
   pub took_fault :
-      {J L : Stack} {z : Seen} {n : ℕ} → length s ≤ text_most → Reached s ts J z → step J (y k.token) ≡ on L
-      → token_fault z k.token ≡ some n → Refuses s n t.at
+      {J L : Stack} {z : Seen} {n : RefusalKind} → length s ≤ text_most → Reached s ts J z → step J (y k.token) ≡ on L
+      → token_fault z k.token ≡ some n → Refuses s (number n) t.at
   took_fault {L} l r e f = rw k.stands (reached_fault {J = L} l (rw k.split at r) (rw k.means e) f)
 
   -- what is then counted, by the symbol

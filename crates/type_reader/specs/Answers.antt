@@ -1,25 +1,27 @@
 -- What the readers of types, items and labels answer: told for every stack of what is expected and every count of what was seen, where they
 -- may stand.
 -- Assumes nothing.
-use Rattle.std.specs.Prelude.{List, [], ◌∷◌, ◌⊎◌, ◌≡◌, ℕ, suc, ◌+◌, ◌*◌, ◌<◌, ◌≤◌, length}
+use Rattle.std.specs.Prelude.{List, [], ◌∷◌, ◌⊎◌, ◌≡◌, ℕ, suc, ◌+◌, ◌*◌, ◌<◌, ◌≤◌, length, Ok, Err}
 use Prim.Native.Char.{code}
 use Rattle.rules.specs.Tokens.{Token, Symbol, word, reserved_word, symbol, symbols}
 use Rattle.rules.specs.Notation.{Way, into, out, Ty, Items, Labels, sign, sort_position, write_type, write_items, write_labels}
 use Rattle.rules.specs.Numbers.{text_most, text_nodes_most, labels_most, items_most}
-use Rattle.rules.specs.Numbering.{behind, behind_items, behind_labels}
-use Rattle.rules.specs.Refusals.{Begins, a_label, an_item, nothing_new, innermost, entries_after}
+use Rattle.rules.specs.Numbering.{behind, behind_items, behind_labels, message_kind, choice_kind}
+use Rattle.rules.specs.Refusals.{number, Begins, a_label, an_item, nothing_new, innermost, entries_after}
 use Rattle.rules.proofs.Machine.{Expect, Stack, step}
 use Rattle.rules.proofs.Machine as expect
 use Rattle.rules.proofs.Reached.{Reached, Refuses}
 use Rattle.rules.proofs.OneToken.{counted}
 use Rattle.rules.proofs.TokensBehind.{tokens_behind}
-use Rattle.cursor.specs.Takes.{Ahead, end_kind}
+use Rattle.cursor.specs.Takes.{Ahead, end_kind, kind_of}
 use Rattle.cursor.specs.declared.Cursor.{Cursor}
 use Rattle.cursor.specs.declared.Taken.{Taken}
-use Rattle.flat.specs.Flat.{room, list_from, row, a_use, a_session, sort_number, used, used_items, used_labels, raw, raw_row, raw_items, raw_labels, items_long, labels_long, Holds, Stored, StoredItems, StoredLabels, Kept, KeptBut, words_of}
+use Rattle.flat.specs.Flat.{room, list_from, row, a_use, a_session, sort_number, used, used_items, used_labels, raw, raw_row}
+use Rattle.flat.specs.Flat.{raw_items, raw_labels, items_long, labels_long, Holds, Stored, StoredItems, StoredLabels, Kept, KeptBut, words_of}
+use Rattle.table.specs.declared.Kind.{Kind}
 use Rattle.table.specs.declared.Sort.{Sort}
-use Rattle.type_reader.specs.declared.Got.{Got}
-use Rattle.type_reader.specs.declared.Got.TheVariants.{Past, Refused}
+use Rattle.table.specs.declared.answers.Refusal.{Refusal}
+use Rattle.type_reader.specs.Leaves.{Got, Moved, got}
 
 -- the text is short, the areas have their room, and the cursor is within both
 pub record Ready (s a b : List ℕ) (c : Cursor) : Type 0 where
@@ -35,12 +37,17 @@ pub record TokenReady (s a b : List ℕ) (t : Taken) : Type 0 where
   pub ready : Ready s a b t.next
   pub order : t.next.at ≡ t.at + t.len
   pub uses_before : t.next.uses ≤ t.at
-  pub some_byte : (t.kind ≡ end_kind) ⊎ (0 < t.len)
+  pub some_byte : (kind_of t ≡ end_kind) ⊎ (0 < t.len)
 
 -- where an answer leads: on, within the text and the areas
 pub data Sound (s a b : List ℕ) (from nodes : ℕ) : Got → Type 0 where
-  refused : {n p : ℕ} → Sound s a b from nodes (Refused n p)
-  past : {v : ℕ} {c : Cursor} → from < c.at → nodes ≤ c.nodes → v < a_use + text_most → Ready s a b c → Sound s a b from nodes (Past v c)
+  refused : {no : Refusal} → Sound s a b from nodes (Err no)
+  past : {v : ℕ} {c : Cursor} → from < c.at → nodes ≤ c.nodes → v < a_use + text_most → Ready s a b c → Sound s a b from nodes (got v c)
+
+-- the same of an answer with no value
+pub data SoundOn (s a b : List ℕ) (from nodes : ℕ) : Moved → Type 0 where
+  refused_on : {no : Refusal} → SoundOn s a b from nodes (Err no)
+  past_on : {c : Cursor} → from < c.at → nodes ≤ c.nodes → Ready s a b c → SoundOn s a b from nodes (Ok c)
 
 -- the first token leads from J to where it leads from L
 abbrev pub Acts : Stack → Stack → List Token → Type 0
@@ -70,8 +77,8 @@ module _ (s a b a' b' : List ℕ) where
     pub kept_uses : Kept b b' t.next.uses
 
   pub data TypeGot (t : Taken) (ts : List Token) (K : Stack) (nx : Begins) (ns : List (List ℕ)) (bs : List (List (List ℕ))) : Got → Type 0 where
-    refused : {n p : ℕ} → Refuses s n p → TypeGot t ts K nx ns bs (Refused n p)
-    past : {v : ℕ} {c : Cursor} (x : Ty) → PastType t ts K nx ns bs x v c → TypeGot t ts K nx ns bs (Past v c)
+    refused : {no : Refusal} → Refuses s (number no.kind) no.place → TypeGot t ts K nx ns bs (Err no)
+    past : {v : ℕ} {c : Cursor} (x : Ty) → PastType t ts K nx ns bs x v c → TypeGot t ts K nx ns bs (got v c)
 
   pub record TypeRead (t : Taken) (deep : ℕ) (r : Got) : Type 0 where
     pub told :
@@ -97,10 +104,10 @@ module _ (s a b a' b' : List ℕ) where
 
   -- the tokens that were read are the items xs, and what closes them
   pub data ItemsGot (Wrote : Items → List Symbol → Type 0) (K : Stack) (ns : List (List ℕ)) (bs : List (List (List ℕ))) (k u node n : ℕ) : Got → Type 0 where
-    refused : {m p : ℕ} → Refuses s m p → ItemsGot Wrote K ns bs k u node n (Refused m p)
+    refused : {no : Refusal} → Refuses s (number no.kind) no.place → ItemsGot Wrote K ns bs k u node n (Err no)
     past :
         {v : ℕ} {c : Cursor} (xs : Items) → Wrote xs (symbols (tokens_behind s c.at)) → v ≡ n + items_long xs → v ≤ items_most
-        → PastItems K ns bs k u node n xs c → ItemsGot Wrote K ns bs k u node n (Past v c)
+        → PastItems K ns bs k u node n xs c → ItemsGot Wrote K ns bs k u node n (got v c)
 
   -- the items of the node, behind its opening bracket
   pub record ItemsRead (d : Way) (c : Cursor) (deep node : ℕ) (r : Got) : Type 0 where
@@ -115,18 +122,18 @@ module _ (s a b a' b' : List ℕ) where
       PastList (expect.more_items d ∷ K) ns ((first_spelled ts ∷ es) ∷ bs) k u k' u' (node * room + list_from + n) (node * room + room) (cell ∷ [])
       Store c
 
-  pub data ItemGot (d : Way) (ts : List Token) (K : Stack) (ns es : List (List ℕ)) (bs : List (List (List ℕ))) (k u node n : ℕ) : Got → Type 0 where
-    refused : {m p : ℕ} → Refuses s m p → ItemGot d ts K ns es bs k u node n (Refused m p)
+  pub data ItemGot (d : Way) (ts : List Token) (K : Stack) (ns es : List (List ℕ)) (bs : List (List (List ℕ))) (k u node n : ℕ) : Moved → Type 0 where
+    refused : {no : Refusal} → Refuses s (number no.kind) no.place → ItemGot d ts K ns es bs k u node n (Err no)
     past_sort :
-        {v : ℕ} {c : Cursor} (y : Sort) → symbols ts ≡ reserved_word (sort_position y) ∷ symbols (tokens_behind s c.at)
-        → PastItem d ts K ns es bs k u node n k u (sort_number y) (Unit {0}) c → ItemGot d ts K ns es bs k u node n (Past v c)
+        {c : Cursor} (y : Sort) → symbols ts ≡ reserved_word (sort_position y) ∷ symbols (tokens_behind s c.at)
+        → PastItem d ts K ns es bs k u node n k u (sort_number y) (Unit {0}) c → ItemGot d ts K ns es bs k u node n (Ok c)
     past_session :
-        {v : ℕ} {c : Cursor} (x : Ty) → symbols ts ≡ write_type x (symbols (tokens_behind s c.at))
+        {c : Cursor} (x : Ty) → symbols ts ≡ write_type x (symbols (tokens_behind s c.at))
         → PastItem d ts K ns es bs k u node n (behind x k) (used x u) (a_session + raw x k u) (Stored a' b' x k u) c
-        → ItemGot d ts K ns es bs k u node n (Past v c)
+        → ItemGot d ts K ns es bs k u node n (Ok c)
 
-  pub record ItemRead (t : Taken) (deep node n : ℕ) (r : Got) : Type 0 where
-    pub few : {v : ℕ} {c : Cursor} → r ≡ Past v c → n < items_most
+  pub record ItemRead (t : Taken) (deep node n : ℕ) (r : Moved) : Type 0 where
+    pub few : {c : Cursor} → r ≡ Ok c → n < items_most
     pub told :
         (d : Way) (ts : List Token) (e : Expect) (J K : Stack) (ns es : List (List ℕ)) (bs : List (List (List ℕ)))
         → Ahead s t ts → Acts (e ∷ J) (expect.an_item d ∷ K) ts
@@ -139,10 +146,10 @@ module _ (s a b a' b' : List ℕ) where
       (raw_labels ls k u) (StoredLabels a' b' ls k u) c
 
   pub data LabelsGot (ts : List Token) (K : Stack) (ns : List (List ℕ)) (bs : List (List (List ℕ))) (k u node n : ℕ) : Got → Type 0 where
-    refused : {m p : ℕ} → Refuses s m p → LabelsGot ts K ns bs k u node n (Refused m p)
+    refused : {no : Refusal} → Refuses s (number no.kind) no.place → LabelsGot ts K ns bs k u node n (Err no)
     past :
         {v : ℕ} {c : Cursor} (ls : Labels) → symbols ts ≡ write_labels ls (symbols (tokens_behind s c.at)) → v ≡ n + labels_long ls
-        → v ≤ labels_most → PastLabels K ns bs k u node n ls c → LabelsGot ts K ns bs k u node n (Past v c)
+        → v ≤ labels_most → PastLabels K ns bs k u node n ls c → LabelsGot ts K ns bs k u node n (got v c)
 
   -- the labels of the node, behind its opening brace
   pub record LabelsRead (c : Cursor) (deep node : ℕ) (r : Got) : Type 0 where
@@ -157,14 +164,14 @@ module _ (s a b a' b' : List ℕ) where
       PastList (expect.more_labels ∷ K) ns (words_of s a' (node * room + list_from) (n + 1) ∷ bs) k u (behind x k) (used x u)
       (node * room + list_from + n * row) (node * room + room) (raw_row w x k u []) (Stored a' b' x k u) c
 
-  pub data LabelGot (ts : List Token) (K : Stack) (ns : List (List ℕ)) (bs : List (List (List ℕ))) (k u node n : ℕ) : Got → Type 0 where
-    refused : {m p : ℕ} → Refuses s m p → LabelGot ts K ns bs k u node n (Refused m p)
+  pub data LabelGot (ts : List Token) (K : Stack) (ns : List (List ℕ)) (bs : List (List (List ℕ))) (k u node n : ℕ) : Moved → Type 0 where
+    refused : {no : Refusal} → Refuses s (number no.kind) no.place → LabelGot ts K ns bs k u node n (Err no)
     past :
-        {v : ℕ} {c : Cursor} (w : Token) (x : Ty) → symbols ts ≡ word w ∷ sign ":" ∷ write_type x (symbols (tokens_behind s c.at))
-        → PastLabel K ns bs k u node n w x c → LabelGot ts K ns bs k u node n (Past v c)
+        {c : Cursor} (w : Token) (x : Ty) → symbols ts ≡ word w ∷ sign ":" ∷ write_type x (symbols (tokens_behind s c.at))
+        → PastLabel K ns bs k u node n w x c → LabelGot ts K ns bs k u node n (Ok c)
 
-  pub record LabelRead (t : Taken) (deep node n : ℕ) (r : Got) : Type 0 where
-    pub few : {v : ℕ} {c : Cursor} → r ≡ Past v c → n < labels_most
+  pub record LabelRead (t : Taken) (deep node n : ℕ) (r : Moved) : Type 0 where
+    pub few : {c : Cursor} → r ≡ Ok c → n < labels_most
     pub told :
         (ts : List Token) (K : Stack) (ns : List (List ℕ)) (bs : List (List (List ℕ)))
         → Ahead s t ts
@@ -179,3 +186,14 @@ message_byte out = code "!"
 abbrev pub choice_byte : Way → ℕ
 choice_byte into = code "&"
 choice_byte out = code "+"
+
+-- t is the sign of a message of that kind, and of a choice of it
+pub record MessageSign (t : Taken) (k : Kind) : Type 0 where
+  pub way : Way
+  pub byte : kind_of t ≡ message_byte way
+  pub kind : k ≡ message_kind way
+
+pub record ChoiceSign (t : Taken) (k : Kind) : Type 0 where
+  pub way : Way
+  pub byte : kind_of t ≡ choice_byte way
+  pub kind : k ≡ choice_kind way

@@ -1,2 +1,5 @@
 -- What the functions' proofs cite.
+pub mod Every
+pub mod Found
+pub mod Lists
 pub mod Reserved

@@ -1,24 +1,13 @@
--- `dual::hands_over` meets its contract: no node below `i` has a session item.
+-- `dual::hands_over` meets its contract.
 -- Assumes nothing.
-use native.Mathlib.Omega.{arith}
-use Rattle.rules.specs.Dual.{hands_over}
-use Rattle.rules.proofs.Basics.{some_met, none_met, none_at_all}
+use Rattle.std.proofs.Common.{rules, tests}
+use Rattle.rules.specs.Tables.{node_at}
+use Rattle.rules.specs.Dual.{hands_over_at, hands_over}
+use Rattle.words.proofs.Every.{some_by_any}
 use Rattle.dual.proofs.hands_over.Goals as goal
-
-pub loop-i-init : goal.loop-i-init
-loop-i-init c = (omega arith, λ j l. absurd (omega arith))
-
-pub bounds-t-i : goal.bounds-t-i
-bounds-t-i c = omega (arith, c.requires)
-
-pub returns-then-hands_over_at : goal.returns-then-hands_over_at
-unfolding hands_over
-returns-then-hands_over_at c = some_met _ _ _ (omega arith) c.hands_over_at.ensures c.if-hands_over_at.true
-
-pub loop-i-preserved : goal.loop-i-preserved
-loop-i-preserved c =
-    (omega arith, none_met _ _ c.loop-i.invariant.1 c.hands_over_at.ensures c.if-hands_over_at.false)
 
 pub returns : goal.returns
 unfolding hands_over
-returns c = none_at_all _ _ _ (omega arith) c.loop-i.invariant.1
+returns c =
+    rw (← c.from.ensures)
+    (some_by_any _ (λ i. hands_over_at (node_at c.args.t.now i)) _ _ _ c.any.ensures.ran (λ i b q k. search (rules, tests)))

@@ -1,21 +1,39 @@
--- `formed::choice_formed` meets its contract: it asks for the count, then each label, and what is left is whether any is there twice.
+-- `formed::choice_formed` meets its contract: `all` asks it of each label.
 -- Assumes nothing.
-use mathlib.Core.Path.{sym, ◌∙◌}
-use native.Mathlib.Omega.{arith}
-use Rattle.rules.proofs.FormedTests.{choice_formed_none, choice_formed_many, choice_formed-label, choice_formed_labels}
+use mathlib.Core.Bool.{false}
+use mathlib.Core.Path.{◌≡◌}
+use Rattle.std.proofs.Common.{rules, arith}
+use Rattle.std.proofs.lemmas.Grind.{common_steps}
+use Rattle.rules.specs.Basics.{every}
+use Rattle.rules.specs.Tables.{label_at, label_count}
+use Rattle.rules.specs.Formed.{label_formed, label_new, choice_formed}
+use Rattle.rules.proofs.FormedTests.{choice_formed-label}
+use Rattle.words.proofs.Every.{every_by_all}
 use Rattle.formed.proofs.choice_formed.Goals as goal
+use Rattle.formed.proofs.choice_formed.Goals.{then-contains, else-contains}
 
-pub returns-then-count-eq0 : goal.returns-then-count-eq0
-returns-then-count-eq0 c = sym (choice_formed_none _ _ _ (omega arith))
+pub returns-then-all : goal.returns-then-all
+unfolding choice_formed
+returns-then-all c =
+    let e : c.all-then-all.result ≡ every c.label_count-count.result (label_new c.args.x.now c.args.names.now) =
+    every_by_all _ _ _ _ _ c.all-then-all.ensures.ran (λ x b q k. search rules) in
+    elim c.if-contains.branch [
+      | then-contains w ↦
+          let d : w.all.result ≡ every c.label_count-count.result (λ i. label_formed c.args.n c.args.names.now (label_at c.args.x.now i)) =
+          every_by_all _ _ _ _ _ w.all.ensures.ran (λ x b q k. search rules) in
+          grind (arith, common_steps)
+      | else-contains w ↦ grind (arith, common_steps)
+    ]
 
-pub returns-then-count-gt-LABELS_MOST : goal.returns-then-count-gt-LABELS_MOST
-returns-then-count-gt-LABELS_MOST c = sym (choice_formed_many _ _ _ (omega arith))
-
-pub returns-then-not-labels_formed : goal.returns-then-not-labels_formed
-returns-then-not-labels_formed c = sym (choice_formed-label _ _ _ (sym c.labels_formed.ensures ∙ c.if-not-labels_formed.true))
-
-pub returns : goal.returns
-returns c =
-    c.labels_new.ensures
-    ∙ sym
-    (choice_formed_labels _ _ _ (omega arith) (omega arith) (sym c.labels_formed.ensures ∙ c.if-not-labels_formed.false))
+pub returns-else-all : goal.returns-else-all
+unfolding choice_formed
+returns-else-all c =
+    elim c.if-contains.branch [
+      | then-contains w ↦
+          let d : w.all.result ≡ every c.label_count-count.result (λ i. label_formed c.args.n c.args.names.now (label_at c.args.x.now i)) =
+          every_by_all _ _ _ _ _ w.all.ensures.ran (λ x b q k. search rules) in
+          let f : every (label_count c.args.x.now) (λ i. label_formed c.args.n c.args.names.now (label_at c.args.x.now i)) ≡ false = cc in
+          let g : choice_formed c.args.n c.args.names.now c.args.x.now ≡ false = choice_formed-label c.args.n c.args.names.now c.args.x.now f in
+          cc
+      | else-contains w ↦ grind (arith, common_steps)
+    ]

@@ -1,30 +1,34 @@
--- `formed::well_formed` meets its contract: the nodes below `i` are formed.
+-- `formed::well_formed` meets its contract: `all` asks it of each node.
 -- Assumes nothing.
-use mathlib.Core.Path.{sym, ◌∙◌}
-use native.Mathlib.Omega.{arith}
-use Rattle.rules.proofs.Basics.{every_passed}
-use Rattle.rules.proofs.FormedTests.{well_formed_none, well_formed_many, well_formed_start, well_formed_node, well_formed_nodes}
+use mathlib.Core.List.{List}
+use mathlib.Core.Path.{◌≡◌, refl, ◌∙◌}
+use Prim.Native.Nat.{ℕ, ◌≤◌}
+use lib.ListN.{length, take, length-take}
+use lib.Seq.{get_or-take}
+use Rattle.std.proofs.Common.{rules, arith}
+use Rattle.std.proofs.lemmas.Grind.{common_steps}
+use Rattle.std.proofs.lemmas.Iterator.{YieldsList-from_slice}
+use Rattle.std.proofs.lemmas.Iterator.Search.{all_from_yields_List}
+use Rattle.rules.specs.Basics.{every}
+use Rattle.rules.specs.Tables.{node_at, no_node}
+use Rattle.rules.specs.Formed.{node_formed, well_formed}
+use Rattle.table.specs.declared.Node.{Node}
+use Rattle.table.specs.declared.Table.{Table}
+use Rattle.words.proofs.Every.{list_all_every}
 use Rattle.formed.proofs.well_formed.Goals as goal
 
-pub returns-then-count-eq0 : goal.returns-then-count-eq0
-returns-then-count-eq0 c = sym (well_formed_none _ _ (omega arith))
+pub returns-then-t-n : goal.returns-then-t-n
+unfolding well_formed
+returns-then-t-n c =
+    let t : Table = c.args.t in
+    let names : List ℕ = c.args.names.now in
+    let few : t.count ≤ 128 = grind (arith, common_steps) in
+    let nodes : List Node = take t.count t.nodes in
+    let e : c.all.result ≡ every t.count (λ i. node_formed t.count names (node_at t i)) =
+    all_from_yields_List (node_formed t.count names) _ _ _ c.all.ensures.ran (YieldsList-from_slice nodes cc) (λ x b q k. search rules)
+    ∙ list_all_every (node_formed t.count names) nodes no_node t.count (λ i. node_formed t.count names (node_at t i)) (let h : length nodes ≡ t.count = simp length-take (omega arith) in h) (λ i l. rw (get_or-take t.count t.nodes i no_node l) refl) in
+    grind (arith, common_steps)
 
-pub returns-then-count-gt-NODES_MOST : goal.returns-then-count-gt-NODES_MOST
-returns-then-count-gt-NODES_MOST c = sym (well_formed_many _ _ (omega arith))
-
-pub returns-then-n-t : goal.returns-then-n-t
-returns-then-n-t c = sym (well_formed_start _ _ (omega arith))
-
-pub loop-i-init : goal.loop-i-init
-loop-i-init c = (omega arith, λ j l. absurd (omega arith))
-
-pub returns-then-not-node_formed : goal.returns-then-not-node_formed
-returns-then-not-node_formed c = sym (well_formed_node _ _ _ (omega arith) (sym c.node_formed.ensures ∙ c.if-not-node_formed.true))
-
-pub loop-i-preserved : goal.loop-i-preserved
-loop-i-preserved c =
-    (omega arith, every_passed _ _ c.loop-i.invariant.1 c.node_formed.ensures c.if-not-node_formed.false-raw)
-
-pub returns : goal.returns
-returns c =
-    sym (well_formed_nodes _ _ (omega arith) (omega arith) (omega arith) (λ j l. c.loop-i.invariant.1 j (omega arith)))
+pub returns-else-t-n : goal.returns-else-t-n
+unfolding well_formed
+returns-else-t-n c = grind (arith, common_steps)

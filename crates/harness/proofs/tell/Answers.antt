@@ -3,8 +3,8 @@
 use Rattle.harness.specs.Told.{a_line, too_short}
 use Rattle.harness.proofs.tell.Goals as goal
 
-pub returns-in-Line : goal.returns-in-Line
-returns-in-Line c = rw c.in-Line.is a_line
+pub returns-in-Ok : goal.returns-in-Ok
+returns-in-Ok c = rw c.in-Ok.is a_line
 
-pub returns-in-Refused : goal.returns-in-Refused
-returns-in-Refused c = rw c.in-Refused.is too_short
+pub returns-in-Err : goal.returns-in-Err
+returns-in-Err c = rw c.in-Err.is too_short

@@ -8,7 +8,7 @@ pub returns-then-text-gt-TEXT_MOST : goal.returns-then-text-gt-TEXT_MOST
 returns-then-text-gt-TEXT_MOST c = rw c.refused.ensures (too_long _ c.if-text-gt-TEXT_MOST.true)
 
 pub resolve-requires : goal.resolve-requires
-resolve-requires c = text_past c.read_definitions-r.ensures c.in-Past.is
+resolve-requires c = text_past c.in-Ok.ensures
 
-pub returns-in-Refused : goal.returns-in-Refused
-returns-in-Refused c = rw c.refused-in-Refused.ensures (refuses_reads (text_refuses c.read_definitions-r.ensures c.in-Refused.is))
+pub returns-in-Err : goal.returns-in-Err
+returns-in-Err c = rw c.refused-in-Err.ensures (refuses_reads (text_refuses c.in-Err.ensures))

@@ -9,10 +9,11 @@ use Rattle.rules.specs.Notation.{Way, into, out, Ty, ended, name, message, choic
 use Rattle.rules.specs.Numbers.{text_most, definitions_most, text_nodes_most, labels_most, items_most, brackets_most}
 use Rattle.rules.specs.Numbering.{Lead, to_node, to_name, to_nothing, definition_leads, follow, definition_count, table_of}
 use Rattle.rules.specs.Refusals.{Begins, a_definition, a_label, an_item, nothing_new, Seen, unseen, seen_after, innermost, opens, begins_node, among, used_names, defined_names}
-use Rattle.rules.specs.Refusals as refusal
 use Rattle.rules.specs.Replies.{made, refused}
 use Rattle.table.specs.declared.Sort.{Sort}
 use Rattle.table.specs.declared.Sort.TheVariants.{String, Float, Boolean, Void}
+use Rattle.table.specs.declared.answers.RefusalKind.{RefusalKind}
+use Rattle.table.specs.declared.answers.RefusalKind.TheVariants as kind
 use Rattle.table.specs.declared.answers.Made.{Made}
 
 -- something read, and the tokens behind it; or the tokens from the one on that could not stand there
@@ -175,24 +176,24 @@ one_more z t a_label = leb labels_most (length (innermost z.brackets))
 one_more z t an_item = leb items_most (length (innermost z.brackets))
 one_more z t nothing_new = false
 
-abbrev pub if_so : Bool → ℕ → Option ℕ
+abbrev pub if_so : Bool → RefusalKind → Option RefusalKind
 if_so true n = some n
 if_so false n = none
 
-abbrev pub again : Seen → Token → Begins → Option ℕ
-again z t a_definition = if_so (among z.names t.spelled) refusal.name_twice
-again z t a_label = if_so (among (innermost z.brackets) t.spelled) refusal.label_twice
+abbrev pub again : Seen → Token → Begins → Option RefusalKind
+again z t a_definition = if_so (among z.names t.spelled) kind.NameTwice
+again z t a_label = if_so (among (innermost z.brackets) t.spelled) kind.LabelTwice
 again z t an_item = none
 again z t nothing_new = none
 
 -- the first of 3, 4 and 5 whose test passes, and else what comes behind
-abbrev pub lowest : Bool → Bool → Bool → Option ℕ → Option ℕ
-lowest true b c o = some refusal.word_too_long
-lowest false true c o = some refusal.bracket_too_many
-lowest false false true o = some refusal.one_too_many
+abbrev pub lowest : Bool → Bool → Bool → Option RefusalKind → Option RefusalKind
+lowest true b c o = some kind.WordTooLong
+lowest false true c o = some kind.BracketTooMany
+lowest false false true o = some kind.OneTooMany
 lowest false false false o = o
 
-unfoldable pub token_fault : Seen → Token → Option ℕ
+unfoldable pub token_fault : Seen → Token → Option RefusalKind
 token_fault z t =
     lowest (ltb word_most (length t.spelled)) (opens t && leb brackets_most (length z.brackets))
     (begins_node t && leb text_nodes_most z.nodes || one_more z t z.next) (again z t z.next)
@@ -219,7 +220,7 @@ unfoldable pub undefined : Text → List Token → Option Made
 undefined x [] = none
 undefined x (t ∷ ts) =
     elim (leads_nowhere (definition_leads x zero t.spelled)) [
-      | true ↦ some (refused refusal.never_defined t.at)
+      | true ↦ some (refused kind.NeverDefined t.at)
       | false ↦ undefined x ts
     ]
 
@@ -227,7 +228,7 @@ unfoldable pub rounds : Text → List Token → Option Made
 rounds x [] = none
 rounds x (t ∷ ts) =
     elim (follow x (definition_count x) (to_name t.spelled)) [
-      | none ↦ some (refused refusal.leads_round t.at)
+      | none ↦ some (refused kind.LeadsRound t.at)
       | some k ↦ rounds x ts
     ]
 
@@ -240,12 +241,12 @@ named x =
 
 unfoldable pub judged : ℕ → List Token → Got Text → Made
 judged size ts (stuck rest) =
-    elim (walk (length ts - length rest) unseen ts) [ some m ↦ m | none ↦ refused refusal.unexpected (place size rest) ]
+    elim (walk (length ts - length rest) unseen ts) [ some m ↦ m | none ↦ refused kind.Unexpected (place size rest) ]
 judged size ts (got x rest) = elim (walk (length ts) unseen ts) [ some m ↦ m | none ↦ named x ]
 
 unfoldable pub reading : List ℕ → Made
 reading s =
     elim (ltb text_most (length s)) [
-      | true ↦ refused refusal.text_too_long 0
+      | true ↦ refused kind.TextTooLong 0
       | false ↦ judged (length s) (tokens s) (text_from (suc (length (tokens s))) (tokens s))
     ]

@@ -1,17 +1,15 @@
 -- A verdict that computes: a search over pairs, breadth first, and what the areas then hold.
 -- Assumes nothing.
-use Rattle.std.specs.Prelude.{Bool, true, false, ◌&&◌, List, [], ◌∷◌, ◌++◌, ℕ, zero, suc, eqb, ltb, length, get_or, drop}
+use Rattle.std.specs.Prelude.{Bool, true, false, ◌&&◌, List, [], ◌∷◌, ◌++◌, ℕ, zero, suc, eqb, ltb, length, get_or, drop, Ok, Err, Some, None}
 use Rattle.std.proofs.Math.Option.{none, some}
 use Rattle.rules.specs.Basics.{listed}
 use Rattle.rules.specs.Numbers.{labels_most}
-use Rattle.rules.specs.Refusals.{not_well_formed, area_too_short}
 use Rattle.rules.specs.Formed.{well_formed}
-use Rattle.rules.specs.Pairs.{Pair, starts, mismatch_at, step_at, reason, detail}
-use Rattle.rules.specs.Replies.{Areas, pair_count, scratch_size, mark_place, mark, count_marks, cleared}
+use Rattle.rules.specs.Pairs.{Wrong, Pair, starts, mismatch_at, step_at, reason, detail}
+use Rattle.rules.specs.Replies.{Answer, refusal, Areas, pair_count, scratch_size, mark_place, mark, count_marks, cleared}
 use Rattle.table.specs.declared.Table.{Table}
-use Rattle.table.specs.declared.answers.Mismatch.{Mismatch}
-use Rattle.table.specs.declared.answers.Mismatch.TheVariants as mismatch
-use Rattle.table.specs.declared.answers.Verdict.{Verdict}
+use Rattle.table.specs.declared.answers.RefusalKind.{RefusalKind}
+use Rattle.table.specs.declared.answers.RefusalKind.TheVariants as kind
 use Rattle.table.specs.declared.answers.Verdict.TheVariants as the
 
 -- a pair that was reached, and the first run to it
@@ -40,12 +38,9 @@ unfoldable pub reached : List Entry → Pair → Bool
 reached [] p = false
 reached (e ∷ es) p = elim (same_pair e.pair p) [ true ↦ true | false ↦ reached es p ]
 
-abbrev pub fits : Mismatch → Bool
-fits mismatch.Nothing = true
-fits mismatch.Kinds = false
-fits mismatch.Counts = false
-fits (mismatch.Item i) = false
-fits (mismatch.Label i) = false
+abbrev pub fits : Wrong → Bool
+fits None = true
+fits (Some w) = false
 
 module _ (new : Table) (new_names : List ℕ) (old : Table) (old_names : List ℕ) where
   -- the entries with what step s of e leads to
@@ -88,17 +83,17 @@ module _ (new old : Table) where
 
 -- an answer, and the areas behind it
 pub record Reply : Type 0 where
-  pub answer : Verdict
+  pub answer : Answer
   pub areas : Areas
 
 module _ (new : Table) (new_names : List ℕ) (old : Table) (old_names : List ℕ) (before : Areas) where
-  abbrev pub refuse : ℕ → ℕ → Reply
-  refuse n p = record { answer = the.Refused n p; areas = before }
+  abbrev pub refuse : RefusalKind → ℕ → Reply
+  refuse k p = record { answer = Err (refusal k p); areas = before }
 
   unfoldable pub settle : Outcome → Reply
   settle (all_fit es) =
       record {
-        answer = the.Yes (count_marks (marks_of new old es));
+        answer = Ok (the.Yes (count_marks (marks_of new old es)));
         areas =
             record {
               marks = marks_of new old es ++ drop (pair_count new old) before.marks;
@@ -109,7 +104,8 @@ module _ (new : Table) (new_names : List ℕ) (old : Table) (old_names : List �
   settle (mismatched e) =
       record {
         answer =
-            the.No
+            Ok
+            (the.No
             (record {
               reason = reason (mismatch_at new new_names old old_names e.pair);
               detail = detail (mismatch_at new new_names old old_names e.pair);
@@ -117,7 +113,7 @@ module _ (new : Table) (new_names : List ℕ) (old : Table) (old_names : List �
               old = e.pair.old;
               turn = e.pair.turn;
               steps = length e.run;
-            });
+            }));
         areas =
             record {
               marks = cleared (pair_count new old) before.marks;
@@ -125,24 +121,25 @@ module _ (new : Table) (new_names : List ℕ) (old : Table) (old_names : List �
               scratch = cleared (scratch_size new old) before.scratch;
             };
       }
-  settle unfinished = refuse 0 0
+  -- does not come: every search ends (`outcome_comes` in proofs/VerdictAgreement)
+  settle unfinished = refuse kind.AreaTooShort 0
 
   unfoldable pub verdict : Reply
   verdict =
       elim (well_formed new new_names) [
-        | false ↦ refuse not_well_formed 1
+        | false ↦ refuse kind.NotWellFormed 1
         | true ↦
             elim (well_formed old old_names) [
-              | false ↦ refuse not_well_formed 2
+              | false ↦ refuse kind.NotWellFormed 2
               | true ↦
                   elim (ltb (length before.marks) (pair_count new old)) [
-                    | true ↦ refuse area_too_short 1
+                    | true ↦ refuse kind.AreaTooShort 1
                     | false ↦
                         elim (ltb (length before.path) (pair_count new old)) [
-                          | true ↦ refuse area_too_short 2
+                          | true ↦ refuse kind.AreaTooShort 2
                           | false ↦
                               elim (ltb (length before.scratch) (scratch_size new old)) [
-                                | true ↦ refuse area_too_short 3
+                                | true ↦ refuse kind.AreaTooShort 3
                                 | false ↦ settle (outcome new new_names old old_names)
                               ]
                         ]

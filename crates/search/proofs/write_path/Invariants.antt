@@ -5,6 +5,3 @@ use Rattle.search.proofs.write_path.Given as goal
 
 abbrev pub invariant-loop-j : goal.invariant-loop-j
 invariant-loop-j l = Written l.size l.marks l.scratch l.at l.steps l.initial.path l.path l.i l.j
-
-abbrev pub decreases-loop-j : goal.decreases-loop-j
-decreases-loop-j l = l.j

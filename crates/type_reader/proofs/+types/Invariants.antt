@@ -27,13 +27,13 @@ abbrev pub decreases-read_type : goal.decreases-read_type
 decreases-read_type l = 4 * (length l.s.now - l.t.at) + 1
 
 abbrev pub invariant-read_items-loop-c1 : goal.invariant-read_items-loop-c1
-invariant-read_items-loop-c1 l = items.Turning l.s l.initial.nodes l.initial.uses l.nodes l.uses l.closing l.deep l.node l.initial.t l.t l.n
+invariant-read_items-loop-c1 l = items.Turning l.s l.initial.areas.nodes l.initial.areas.uses l.areas.nodes l.areas.uses l.closing l.deep l.node l.initial.t l.t l.n
 
 abbrev pub decreases-read_items-loop-c1 : goal.decreases-read_items-loop-c1
 decreases-read_items-loop-c1 l = length l.s - l.t.at
 
 abbrev pub invariant-read_labels-loop-c1 : goal.invariant-read_labels-loop-c1
-invariant-read_labels-loop-c1 l = labels.Turning l.s l.initial.nodes l.initial.uses l.nodes l.uses l.deep l.node l.initial.from l.from l.n
+invariant-read_labels-loop-c1 l = labels.Turning l.s l.initial.areas.nodes l.initial.areas.uses l.areas.nodes l.areas.uses l.deep l.node l.initial.from l.from l.n
 
 abbrev pub decreases-read_labels-loop-c1 : goal.decreases-read_labels-loop-c1
 decreases-read_labels-loop-c1 l = length l.s - l.from.at

@@ -1,14 +1,11 @@
 -- `type_reader::read_end` meets its contract.
 -- Assumes nothing.
-use native.Mathlib.Omega.{arith}
-use Rattle.type_reader.proofs.Ending.{begun-past, end_refused, end_past}
+use Rattle.type_reader.proofs.Handed.{handed_on}
+use Rattle.type_reader.proofs.Ending.{end_refused, end_past}
 use Rattle.type_reader.proofs.read_end.Goals as goal
 
-pub returns-in_default : goal.returns-in_default
-returns-in_default c = end_refused c.begin_node-r.ensures c.in_default.is
-
-pub store-requires : goal.store-requires
-store-requires c = omega (arith, (begun-past c.begin_node-r.ensures c.in-Past.is).few, (begun-past c.begin_node-r.ensures c.in-Past.is).number)
+pub returns-in_err-begun : goal.returns-in_err-begun
+returns-in_err-begun c = rw (handed_on c.from_residual.result c.from_residual.ensures.1) (end_refused c.in_err-begun.ensures)
 
 pub returns : goal.returns
-returns c = end_past c.begin_node-r.ensures c.in-Past.is c.store.ensures
+returns c = end_past c.in_ok-begun.ensures c.store.ensures

@@ -1,20 +1,14 @@
--- `words::word_bytes` meets its contract: the bytes below `i` may all stand in a word.
+-- `words::word_bytes` meets its contract: `all` asks it of each byte.
 -- Assumes nothing.
-use borrow.Author.Count.{below_more}
 use mathlib.Core.Path.{sym, ◌∙◌}
-use native.Mathlib.Omega.{arith}
-use Rattle.rules.proofs.Words.{word_bytes_false, word_bytes_all}
+use Rattle.std.proofs.Common.{rules}
+use Rattle.std.proofs.lemmas.Iterator.{YieldsList-from_slice}
+use Rattle.std.proofs.lemmas.Iterator.Search.{all_from_yields_List}
+use Rattle.rules.specs.Words.{word_byte}
+use Rattle.words.proofs.Lists.{word_bytes_list}
 use Rattle.words.proofs.word_bytes.Goals as goal
 
-pub loop-i-init : goal.loop-i-init
-loop-i-init c = (omega arith, λ j l. absurd (omega arith))
-
-pub returns-then-not-is_word_byte : goal.returns-then-not-is_word_byte
-returns-then-not-is_word_byte c = sym (word_bytes_false _ _ (omega arith) (sym c.is_word_byte.ensures ∙ c.if-not-is_word_byte.true))
-
-pub loop-i-preserved : goal.loop-i-preserved
-loop-i-preserved c =
-    (omega arith, below_more _ _ c.loop-i.invariant.1 (sym c.is_word_byte.ensures ∙ c.if-not-is_word_byte.false))
-
 pub returns : goal.returns
-returns c = sym (word_bytes_all _ (λ j l. c.loop-i.invariant.1 j (omega arith)))
+returns c =
+    all_from_yields_List word_byte _ _ _ c.all.ensures.ran (YieldsList-from_slice c.args.w.now cc) (λ x b q k. search rules)
+    ∙ sym (word_bytes_list _)

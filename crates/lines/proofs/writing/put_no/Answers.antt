@@ -13,8 +13,8 @@ put_word-a-requires c =
     let ks = take c.args.f.steps c.args.path.now in
     word_room c.args.line.now (bytes "no") (found_fields c.args.f ++ ks) c.requires.1
 
-pub put_found-b-requires : goal.put_found-b-requires
-put_found-b-requires c =
+pub put_fields-b-requires : goal.put_fields-b-requires
+put_fields-b-requires c =
     let ks = take c.args.f.steps c.args.path.now in
     room_some (found_fields c.args.f) ks (room_begins (found_fields c.args.f ++ ks) c.put_word-a.ensures c.requires.1)
 
@@ -22,15 +22,16 @@ pub put_steps-c-requires : goal.put_steps-c-requires
 put_steps-c-requires c =
     let ks = take c.args.f.steps c.args.path.now in
     let a = room_begins (found_fields c.args.f ++ ks) c.put_word-a.ensures c.requires.1 in
-    (c.requires.0, room_all (room_behind (found_fields c.args.f) ks a c.put_found-b.ensures))
+    room_all (room_behind (found_fields c.args.f) ks a c.put_fields-b.ensures)
 
 pub put_byte-requires : goal.put_byte-requires
 put_byte-requires c =
     let ks = take c.args.f.steps c.args.path.now in
     let a = room_begins (found_fields c.args.f ++ ks) c.put_word-a.ensures c.requires.1 in
-    room_feed (room_behind (found_fields c.args.f) ks a c.put_found-b.ensures) c.put_steps-c.ensures
+    room_feed (room_behind (found_fields c.args.f) ks a c.put_fields-b.ensures) c.put_steps-c.ensures
 
 pub returns : goal.returns
 returns c =
     let ks = take c.args.f.steps c.args.path.now in
-    adds_line (found_fields c.args.f ++ ks) c.put_word-a.ensures (adds_some (found_fields c.args.f) ks c.put_found-b.ensures c.put_steps-c.ensures) c.put_byte.ensures
+    adds_line (found_fields c.args.f ++ ks) c.put_word-a.ensures
+    (adds_some (found_fields c.args.f) ks c.put_fields-b.ensures c.put_steps-c.ensures) c.put_byte.ensures

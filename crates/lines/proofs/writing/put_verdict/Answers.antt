@@ -1,6 +1,5 @@
 -- `lines::writing::put_verdict` meets its contract: by the verdict.
 -- Assumes nothing.
-use Rattle.lines.proofs.Adding.{adds_none}
 use Rattle.lines.proofs.writing.put_verdict.Goals as goal
 
 pub put_yes-requires : goal.put_yes-requires
@@ -14,6 +13,3 @@ returns-in-Yes c = rw c.in-Yes.is c.put_yes.ensures
 
 pub returns-in-No : goal.returns-in-No
 returns-in-No c = rw c.in-No.is c.put_no.ensures
-
-pub returns-in-Refused : goal.returns-in-Refused
-returns-in-Refused c = rw c.in-Refused.is (adds_none _ _)

@@ -5,8 +5,8 @@ use lib.ListN.{length}
 use Rattle.reader.proofs.Looping.{Looping}
 use Rattle.reader.proofs.definitions.read_definitions.Given as goal
 
-abbrev pub invariant-loop-t : goal.invariant-loop-t
-invariant-loop-t l = Looping l.s l.nodes l.uses l.definitions l.c l.n l.t
+abbrev pub invariant-loop-c : goal.invariant-loop-c
+invariant-loop-c l = Looping l.s l.areas.nodes l.areas.uses l.definitions l.c l.n l.t
 
-abbrev pub decreases-loop-t : goal.decreases-loop-t
-decreases-loop-t l = length l.s - l.c.at
+abbrev pub decreases-loop-c : goal.decreases-loop-c
+decreases-loop-c l = length l.s - l.c.at

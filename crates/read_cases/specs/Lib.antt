@@ -1,2 +1,0 @@
--- What the functions that put a text together say of it.
-pub mod Room

@@ -1,0 +1,2 @@
+-- What a search from the front answers.
+pub mod Found
