@@ -9,7 +9,7 @@
  * - The areas and `*area` lie apart from each other and from the texts. The texts may be the same or overlap.
  * - Nobody else reads or writes the areas, or writes the texts, while a call goes on. A call keeps nothing behind it: several may go on at once
  *   in areas of their own.
- * - There is stack enough: at most 88,744 bytes were seen, and 146,040 for dzaghvori_verdict_own and 203,384 for dzaghvori_compatible_own, which
+ * - There is stack enough: at most 78,072 bytes were seen, and 135,368 for dzaghvori_verdict_own and 192,712 for dzaghvori_compatible_own, which
  *   have areas of their own there (.ci/outside measures it).
  *
  * What a function returns is the length of the line and no verdict: that is the line's first word, `yes`, `no` or `refused`, and nothing else.

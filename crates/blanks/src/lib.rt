@@ -1,13 +1,21 @@
-// An array that is blank past its first places, and the answer beside which a table is blank.
+// What is blank: "whatever makes a table fills it with 0 (`end`, `string`)"; an array that is blank past its first places; and the answer beside
+// which a table is blank.
 #![tactic(auto)]
 
 ghost use Rattle.std.specs.Prelude.{◌≡◌, ℕ, ◌≤◌};
 ghost use Rattle.rules.specs.Basics.{listed, fill};
+ghost use Rattle.rules.specs.Tables.{blank_node};
 ghost use Rattle.rules.specs.Replies.{refused};
 ghost use Rattle.blanks.specs.Calls.{TakesBelow, AnswersBelow};
 
 use table::answers::{Made, Refusal, RefusalKind};
 use table::{NODES_MOST, Node, Table};
+
+pub fn blank_node() -> Node
+    ensures { result ≡ blank_node }
+{
+    Node::BLANK
+}
 
 // An array that holds what `at` answers in its first `n` places, and `blank` behind them.
 // Not `array::from_fn`, which is no plainer here: at a type parameter it would ask of every caller that the array fits in memory.
@@ -29,7 +37,7 @@ pub fn refused(kind: RefusalKind, place: usize) -> Made
 {
     Made {
         table: Table {
-            nodes: [Node::BLANK; NODES_MOST],
+            nodes: [blank_node(); NODES_MOST],
             count: 0,
             start: 0,
         },

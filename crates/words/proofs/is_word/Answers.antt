@@ -8,8 +8,8 @@ use Rattle.words.proofs.is_word.Goals as goal
 pub returns-in-None : goal.returns-in-None
 returns-in-None c = sym (is_word_none _ (search rules))
 
-pub returns-then-word_bytes : goal.returns-then-word_bytes
-returns-then-word_bytes c = grind (arith, is_word_some c.args.w.now c.in-Some.rest.now c.in-Some.first.now c.in-Some.ensures.cases.0)
+pub returns-then-is_letter : goal.returns-then-is_letter
+returns-then-is_letter c = grind (arith, is_word_some c.args.w.now c.in-Some.rest.now c.in-Some.first.now c.in-Some.ensures.cases.0)
 
-pub returns-else-word_bytes : goal.returns-else-word_bytes
-returns-else-word_bytes c = grind (arith, is_word_some c.args.w.now c.in-Some.rest.now c.in-Some.first.now c.in-Some.ensures.cases.0)
+pub returns-else-is_letter : goal.returns-else-is_letter
+returns-else-is_letter c = grind (arith, is_word_some c.args.w.now c.in-Some.rest.now c.in-Some.first.now c.in-Some.ensures.cases.0)
